@@ -1,0 +1,4 @@
+// Who takes part, why a call is denied, what a move is and what a decision is.
+pub mod decision;
+pub mod denial;
+pub mod moves;
