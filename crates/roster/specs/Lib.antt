@@ -1,1 +1,5 @@
+pub mod Counting
 pub mod Denials
+pub mod Quorums
+pub mod Rosters
+pub mod Sizes

@@ -2,3 +2,7 @@
 pub mod decision;
 pub mod denial;
 pub mod moves;
+pub mod roster;
+pub mod size;
+#[cfg(test)]
+mod tests;
