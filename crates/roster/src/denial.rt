@@ -58,7 +58,7 @@ impl Denial {
     }
 
     // The refusal in words.
-    pub fn words(&self) -> &'static str
+    fn words(&self) -> &'static str
         ensures { λ r. ⌜ now r ≡ words-of (now (self .entry)) ⌝ }
     {
         match self {

@@ -1,10 +1,8 @@
 // Making a roster, and asking it.
 ghost use mathlib.Core.Path.{_≡_};
-ghost use Prim.Native.Nat.{_-_, _≤_};
 ghost use Rattle.std.specs.Results.{Cases};
-ghost use Rattle.std.specs.Vec.{made};
 ghost use Rattle.std.specs.declared.option.Option.the-variants.{None, Some};
-ghost use Rattle.roster.specs.Counting.{count, is-seat};
+ghost use Rattle.roster.specs.Counting.{is-seat};
 ghost use Rattle.roster.specs.Rosters.{bounded, roster-denial, sound};
 use crate::denial::Denial;
 use crate::roster::Roster;
@@ -21,7 +19,6 @@ impl Roster {
     // Any three numbers: a roster, or the refusal of the first check that they fail.
     pub fn new(n: u64, t: u64, faulty: u64) -> Result<Roster, Denial>
         ensures cases { λ r. ⌜ Cases r (λ x. (roster-denial n t faulty ≡ None) × (x .size .n ≡ n) × (x .size .t ≡ t) × (x .faulty ≡ faulty)) (λ e. roster-denial n t faulty ≡ Some e) ⌝ }
-        ensures sound { λ r. ⌜ made r (λ x. x .size .n - x .size .t ≤ count (sound x) (x .size .n)) ⌝ }
     {
         let size = Size::new(n, t)?;
         if !is_bounded(size, faulty) {

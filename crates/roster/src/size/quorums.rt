@@ -1,40 +1,33 @@
-// How many seats make a quorum. Whatever seats are faulty, so long as they are at most t.
+// How many seats make a quorum.
 ghost use mathlib.Core.Path.{_≡_};
-ghost use Prim.Native.Nat.{_+_, _-_, _*_, _/_};
-ghost use Rattle.roster.specs.Quorums.{Meet, HasSound, MostlySound, Reached};
+ghost use Rattle.roster.specs.Quorums.{echo-quorum, one-sound, ready-quorum, all-but-faulty};
 use crate::size::Size;
 
 impl Size {
-    // More than (n + t) / 2: two such quorums share a sound seat, and the sound seats alone make one.
+    // ECHOs that a READY needs: two such quorums share a sound seat.
     pub fn echo_quorum(&self) -> u64
-        ensures value { λ r. ⌜ r ≡ (now (self .entry) .n + now (self .entry) .t) / 2 + 1 ⌝ }
-        ensures meet { λ r. ⌜ Meet (now (self .entry) .n) (now (self .entry) .t) r ⌝ }
-        ensures reached { λ r. ⌜ Reached (now (self .entry) .n) (now (self .entry) .t) r ⌝ }
+        ensures { λ r. ⌜ r ≡ echo-quorum (now (self .entry) .n) (now (self .entry) .t) ⌝ }
     {
         (self.n + self.t) / 2 + 1
     }
 
-    // t + 1: of so many seats one is sound.
+    // As many as surely have a sound one among them.
     pub fn one_sound(&self) -> u64
-        ensures value { λ r. ⌜ r ≡ now (self .entry) .t + 1 ⌝ }
-        ensures sound { λ r. ⌜ HasSound (now (self .entry) .n) (now (self .entry) .t) r ⌝ }
+        ensures { λ r. ⌜ r ≡ one-sound (now (self .entry) .t) ⌝ }
     {
         self.t + 1
     }
 
-    // 2t + 1: of so many seats t + 1 are sound, and the sound seats alone are so many.
+    // READYs that a holding needs: more than t of so many are sound.
     pub fn ready_quorum(&self) -> u64
-        ensures value { λ r. ⌜ r ≡ 2 * now (self .entry) .t + 1 ⌝ }
-        ensures sound { λ r. ⌜ MostlySound (now (self .entry) .n) (now (self .entry) .t) r ⌝ }
-        ensures reached { λ r. ⌜ Reached (now (self .entry) .n) (now (self .entry) .t) r ⌝ }
+        ensures { λ r. ⌜ r ≡ ready-quorum (now (self .entry) .t) ⌝ }
     {
         2 * self.t + 1
     }
 
-    // n - t: as many as a seat can wait for, since the sound seats alone are so many.
+    // As many as a seat may wait for, since all others may be faulty.
     pub fn all_but_faulty(&self) -> u64
-        ensures value { λ r. ⌜ r ≡ now (self .entry) .n - now (self .entry) .t ⌝ }
-        ensures reached { λ r. ⌜ Reached (now (self .entry) .n) (now (self .entry) .t) r ⌝ }
+        ensures { λ r. ⌜ r ≡ all-but-faulty (now (self .entry) .n) (now (self .entry) .t) ⌝ }
     {
         self.n - self.t
     }
