@@ -1,0 +1,56 @@
+-- What a line asks for, by its words. Assumes nothing.
+use mathlib.Core.List.{List, [], _∷_}
+use mathlib.Core.Path.{_≡_}
+use Prim.Native.Nat.{ℕ}
+use lib.Chars.{codes}
+use lib.ListN.{getD, length}
+use Rattle.jobs.specs.declared.job.Job.{Job}
+use Rattle.jobs.specs.declared.job.Job.the-variants.{Write, Read}
+use Rattle.jobs.specs.declared.job.NoJob.{NoJob}
+use Rattle.jobs.specs.declared.job.NoJob.the-variants.{Unknown, Numbers, Hex, Memory}
+use Rattle.script.specs.Hex.{InHex}
+use Rattle.script.specs.Numbers.{Number}
+use Rattle.script.specs.Words.{Words}
+use Rattle.std.specs.Of.Vec.{vec-items}
+use Rattle.std.specs.declared.option.Option.{Option}
+use Rattle.std.specs.declared.option.Option.the-variants.{None, Some}
+use Rattle.std.specs.declared.result.Result.{Result}
+use Rattle.std.specs.declared.result.Result.the-variants.{Ok, Err}
+use Rattle.wire.specs.declared.letter.Letter.{Letter}
+
+-- the word at a place
+abbrev pub word : List (List ℕ) → ℕ → List ℕ
+word ws k = getD ws k []
+
+-- a word, and four numbers
+pub record FourNumbers (ws : List (List ℕ)) (l : Letter) : Type 0 where
+  pub five : length ws ≡ 5
+  pub kind : Number (word ws 1) (Some (l .kind))
+  pub origin : Number (word ws 2) (Some (l .origin))
+  pub slot : Number (word ws 3) (Some (l .slot))
+  pub code : Number (word ws 4) (Some (l .code))
+
+-- a word, and bytes in hex
+pub record OneHex (ws : List (List ℕ)) (bytes : List ℕ) : Type 0 where
+  pub two : length ws ≡ 2
+  pub hex : InHex (word ws 1) bytes
+
+-- nothing, or a comment, whose first word begins with #
+abbrev pub Silent : List (List ℕ) → Type 0
+Silent [] = Unit {0}
+Silent (w ∷ ws) = getD w 0 0 ≡ 35
+
+abbrev pub Asks : List (List ℕ) → Job → Type 0
+Asks ws (Write l) = (word ws 0 ≡ codes "write") × FourNumbers ws l
+Asks ws (Read bytes) = (word ws 0 ≡ codes "read") × OneHex ws (vec-items bytes)
+
+abbrev pub Asked : List (List ℕ) → Result (Option Job) NoJob → Type 0
+Asked ws (Ok None) = Silent ws
+Asked ws (Ok (Some job)) = Asks ws job
+Asked ws (Err Unknown) = (Silent ws → ⊥) × (word ws 0 ≡ codes "write" → ⊥) × (word ws 0 ≡ codes "read" → ⊥)
+Asked ws (Err Numbers) = (word ws 0 ≡ codes "write") × ((l : Letter) → FourNumbers ws l → ⊥)
+Asked ws (Err Hex) = (word ws 0 ≡ codes "read") × ((bytes : List ℕ) → OneHex ws bytes → ⊥)
+Asked ws (Err Memory) = Unit {0}
+
+abbrev pub Parsed : List ℕ → Result (Option Job) NoJob → Type 0
+Parsed line (Ok asked) = (ws : List (List ℕ)) × Words line ws × Asked ws (Ok asked)

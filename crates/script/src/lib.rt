@@ -1,0 +1,4 @@
+// What a program needs to read jobs from lines of text: words, numbers, and bytes in hex.
+pub mod hex;
+pub mod number;
+pub mod words;

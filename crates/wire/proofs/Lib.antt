@@ -1,0 +1,4 @@
+pub mod Chunks
+pub mod Codes
+pub mod Fronts
+pub mod Readings
