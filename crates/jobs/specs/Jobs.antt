@@ -1,5 +1,6 @@
 -- What a line asks for, by its words. Assumes nothing.
 use mathlib.Core.List.{List, [], _∷_}
+use mathlib.Core.Logic.{_⊎_}
 use mathlib.Core.Path.{_≡_}
 use Prim.Native.Nat.{ℕ}
 use lib.Chars.{codes}
@@ -16,41 +17,50 @@ use Rattle.std.specs.declared.option.Option.{Option}
 use Rattle.std.specs.declared.option.Option.the-variants.{None, Some}
 use Rattle.std.specs.declared.result.Result.{Result}
 use Rattle.std.specs.declared.result.Result.the-variants.{Ok, Err}
+use Rattle.std.specs.declared.vec.Vec.{Vec}
 use Rattle.wire.specs.declared.letter.Letter.{Letter}
 
--- the word at a place
-abbrev pub word : List (List ℕ) → ℕ → List ℕ
-word ws k = getD ws k []
+-- the word at a place, and nothing past the last one
+unfoldable pub word-at : List (List ℕ) → ℕ → List ℕ
+word-at ws k = getD ws k []
 
 -- a word, and four numbers
 pub record FourNumbers (ws : List (List ℕ)) (l : Letter) : Type 0 where
   pub five : length ws ≡ 5
-  pub kind : Number (word ws 1) (Some (l .kind))
-  pub origin : Number (word ws 2) (Some (l .origin))
-  pub slot : Number (word ws 3) (Some (l .slot))
-  pub code : Number (word ws 4) (Some (l .code))
+  pub kind : Number (word-at ws 1) (Some (l .kind))
+  pub origin : Number (word-at ws 2) (Some (l .origin))
+  pub slot : Number (word-at ws 3) (Some (l .slot))
+  pub code : Number (word-at ws 4) (Some (l .code))
 
 -- a word, and bytes in hex
 pub record OneHex (ws : List (List ℕ)) (bytes : List ℕ) : Type 0 where
   pub two : length ws ≡ 2
-  pub hex : InHex (word ws 1) bytes
+  pub hex : InHex (word-at ws 1) bytes
+
+-- the bytes of the second and last word, or why there are none
+abbrev pub Hexed : {A : Type 0} → List (List ℕ) → Result (Vec ℕ A) NoJob → Type 0
+Hexed ws (Ok bytes) = OneHex ws (vec-items bytes)
+Hexed ws (Err Unknown) = ⊥
+Hexed ws (Err Numbers) = ⊥
+Hexed ws (Err Hex) = (bytes : List ℕ) → OneHex ws bytes → ⊥
+Hexed ws (Err Memory) = Unit {0}
 
 -- nothing, or a comment, whose first word begins with #
 abbrev pub Silent : List (List ℕ) → Type 0
-Silent [] = Unit {0}
-Silent (w ∷ ws) = getD w 0 0 ≡ 35
+Silent ws = (length ws ≡ 0) ⊎ (getD (word-at ws 0) 0 0 ≡ 35)
 
 abbrev pub Asks : List (List ℕ) → Job → Type 0
-Asks ws (Write l) = (word ws 0 ≡ codes "write") × FourNumbers ws l
-Asks ws (Read bytes) = (word ws 0 ≡ codes "read") × OneHex ws (vec-items bytes)
+Asks ws (Write l) = (word-at ws 0 ≡ codes "write") × FourNumbers ws l
+Asks ws (Read bytes) = (word-at ws 0 ≡ codes "read") × OneHex ws (vec-items bytes)
 
 abbrev pub Asked : List (List ℕ) → Result (Option Job) NoJob → Type 0
 Asked ws (Ok None) = Silent ws
 Asked ws (Ok (Some job)) = Asks ws job
-Asked ws (Err Unknown) = (Silent ws → ⊥) × (word ws 0 ≡ codes "write" → ⊥) × (word ws 0 ≡ codes "read" → ⊥)
-Asked ws (Err Numbers) = (word ws 0 ≡ codes "write") × ((l : Letter) → FourNumbers ws l → ⊥)
-Asked ws (Err Hex) = (word ws 0 ≡ codes "read") × ((bytes : List ℕ) → OneHex ws bytes → ⊥)
+Asked ws (Err Unknown) = (Silent ws → ⊥) × (word-at ws 0 ≡ codes "write" → ⊥) × (word-at ws 0 ≡ codes "read" → ⊥)
+Asked ws (Err Numbers) = (word-at ws 0 ≡ codes "write") × ((l : Letter) → FourNumbers ws l → ⊥)
+Asked ws (Err Hex) = (word-at ws 0 ≡ codes "read") × ((bytes : List ℕ) → OneHex ws bytes → ⊥)
 Asked ws (Err Memory) = Unit {0}
 
+-- by the line's words, unless there was no memory for them
 abbrev pub Parsed : List ℕ → Result (Option Job) NoJob → Type 0
-Parsed line (Ok asked) = (ws : List (List ℕ)) × Words line ws × Asked ws (Ok asked)
+Parsed line r = (r ≡ Err Memory) ⊎ ((ws : List (List ℕ)) × Words line ws × Asked ws r)

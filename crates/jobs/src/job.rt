@@ -36,7 +36,7 @@ pub impl fmt::Display for NoJob as NoJobDisplay {
                 f,
                 "expected `read HEX`, one word of an even number of hex digits"
             ),
-            NoJob::Memory => write!(f, "expected more memory"),
+            NoJob::Memory => write!(f, "there is no memory to read it"),
         }
     }
 }

@@ -2,3 +2,5 @@
 pub mod answer;
 pub mod job;
 pub mod parse;
+#[cfg(test)]
+mod tests;
