@@ -31,8 +31,8 @@ extern "C" {
 struct goxumaphi_checked {
     /* 0: the bytes are a letter. GOXUMAPHI_NO_LETTER: they are none. */
     uint64_t denial;
-    /* How many bytes, counted from the front, begin some letter. For a letter 23; for bytes that are none the place,
-     * from 0, of the first byte that is wrong, or the length where bytes are only missing. */
+    /* How many bytes, counted from the front, begin some letter. For a letter 23; for bytes that are none the index
+     * of the first wrong byte, or the length where bytes are only missing. */
     uint64_t place;
 };
 

@@ -23,7 +23,7 @@ number-of ShortBuffer = 13
 
 abbrev pub words-of : Denial → List ℕ
 words-of RosterSize = codes "n is not 1 to 10, or 3t is not below n"
-words-of FaultySet = codes "the faulty set names a seat above n, or more than t seats"
+words-of FaultySet = codes "the faulty set has a seat beyond n, or over t seats"
 words-of IllMatched = codes "the part is ill-matched"
 words-of NoSuchAddress = codes "no such address, hall or kind"
 words-of OutOfRange = codes "a seat, letter kind, slot or origin is out of range"

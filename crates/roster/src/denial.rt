@@ -9,11 +9,11 @@ use std::fmt;
 pub enum Denial {
     // n is not 1 to 10, or 3t is not below n
     RosterSize,
-    // the faulty set names a seat above n, or more than t seats
+    // the faulty set has a seat above n, or too many seats
     FaultySet,
     // the part cannot work with what it was made of
     IllMatched,
-    // the part has no such address, hall or kind
+    // no part, hall or kind of move goes by that number
     NoSuchAddress,
     // a seat, a letter's kind or a slot is out of range, or an INIT names an origin other than its sender
     OutOfRange,
@@ -23,9 +23,9 @@ pub enum Denial {
     FigureRange,
     // the code is above the agreement's largest
     CodeTooLarge,
-    // the seat has put before, in a carrier for that slot
+    // one put for a seat is all there is (in a carrier: one for each slot)
     PutBefore,
-    // there is nothing to hand over, or the woken seat has nothing due
+    // nothing is there to be handed over, or to be done by the seat that is woken
     NothingDue,
     // the receiver has counted that letter, or was handed the thing, before
     HandedBefore,
@@ -63,7 +63,7 @@ impl Denial {
     {
         match self {
             Denial::RosterSize => "n is not 1 to 10, or 3t is not below n",
-            Denial::FaultySet => "the faulty set names a seat above n, or more than t seats",
+            Denial::FaultySet => "the faulty set has a seat beyond n, or over t seats",
             Denial::IllMatched => "the part is ill-matched",
             Denial::NoSuchAddress => "no such address, hall or kind",
             Denial::OutOfRange => "a seat, letter kind, slot or origin is out of range",

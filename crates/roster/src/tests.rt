@@ -46,6 +46,6 @@ fn denials_have_words(rt: LibcRuntime) -> Result<(), Fail> {
     let text = format!(rt.alloc(), "{}; {}", Denial::FaultySet, Denial::NoLetter(7))?;
     check(
         text.as_str()
-            == "denied 2: the faulty set names a seat above n, or more than t seats; denied 12 at 7: the bytes are no letter",
+            == "denied 2: the faulty set has a seat beyond n, or over t seats; denied 12 at 7: the bytes are no letter",
     )
 }

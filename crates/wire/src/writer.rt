@@ -43,7 +43,7 @@ fn fill(letter: Letter, buffer: &mut [u8])
     buffer[11] = letter.slot as u8;
 }
 
-// Fills the first 23 bytes of the buffer, and touches no other. A denied call leaves the buffer as it was.
+// Writes a letter in front of the buffer and leaves the bytes behind it. A denied call leaves them all.
 pub fn write(letter: Letter, buffer: &mut [u8]) -> Result<(), Denial>
     ensures value { λ r. ⌜ r ≡ written letter (length (now (buffer .entry))) ⌝ }
     ensures after { λ r. ⌜ now (buffer .exit) ≡ cond (isOk r) (bytes-of letter ++ drop 23 (now (buffer .entry))) (now (buffer .entry)) ⌝ }
