@@ -4,14 +4,14 @@ use mathlib.Core.Logic.{_⊎_}
 use mathlib.Core.Path.{_≡_}
 use Prim.Native.Nat.{ℕ}
 use lib.Chars.{codes}
-use lib.ListN.{getD, length}
+use lib.ListN.{length}
 use Rattle.jobs.specs.declared.job.Job.{Job}
 use Rattle.jobs.specs.declared.job.Job.the-variants.{Write, Read}
 use Rattle.jobs.specs.declared.job.NoJob.{NoJob}
 use Rattle.jobs.specs.declared.job.NoJob.the-variants.{Unknown, Numbers, Hex, Memory}
 use Rattle.script.specs.Hex.{InHex}
-use Rattle.script.specs.Numbers.{Number}
-use Rattle.script.specs.Words.{Words}
+use Rattle.script.specs.Numbers.{Follow}
+use Rattle.script.specs.Words.{word-at, Silent, Words}
 use Rattle.std.specs.Of.Vec.{vec-items}
 use Rattle.std.specs.declared.option.Option.{Option}
 use Rattle.std.specs.declared.option.Option.the-variants.{None, Some}
@@ -20,17 +20,9 @@ use Rattle.std.specs.declared.result.Result.the-variants.{Ok, Err}
 use Rattle.std.specs.declared.vec.Vec.{Vec}
 use Rattle.wire.specs.declared.letter.Letter.{Letter}
 
--- the word at a place, and nothing past the last one
-unfoldable pub word-at : List (List ℕ) → ℕ → List ℕ
-word-at ws k = getD ws k []
-
--- a word, and four numbers
-pub record FourNumbers (ws : List (List ℕ)) (l : Letter) : Type 0 where
-  pub five : length ws ≡ 5
-  pub kind : Number (word-at ws 1) (Some (l .kind))
-  pub origin : Number (word-at ws 2) (Some (l .origin))
-  pub slot : Number (word-at ws 3) (Some (l .slot))
-  pub code : Number (word-at ws 4) (Some (l .code))
+-- a word, and the four numbers of a letter
+abbrev pub FourNumbers : List (List ℕ) → Letter → Type 0
+FourNumbers ws l = Follow ws (l .kind ∷ l .origin ∷ l .slot ∷ l .code ∷ [])
 
 -- a word, and bytes in hex
 pub record OneHex (ws : List (List ℕ)) (bytes : List ℕ) : Type 0 where
@@ -44,10 +36,6 @@ Hexed ws (Err Unknown) = ⊥
 Hexed ws (Err Numbers) = ⊥
 Hexed ws (Err Hex) = (bytes : List ℕ) → OneHex ws bytes → ⊥
 Hexed ws (Err Memory) = Unit {0}
-
--- nothing, or a comment, whose first word begins with #
-abbrev pub Silent : List (List ℕ) → Type 0
-Silent ws = (length ws ≡ 0) ⊎ (getD (word-at ws 0) 0 0 ≡ 35)
 
 abbrev pub Asks : List (List ℕ) → Job → Type 0
 Asks ws (Write l) = (word-at ws 0 ≡ codes "write") × FourNumbers ws l

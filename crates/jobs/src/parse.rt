@@ -1,16 +1,19 @@
 // From a line to a job.
-ghost use mathlib.Core.List.{map};
+ghost use lib.ListN.{length};
+ghost use mathlib.Core.List.{[], _∷_, map};
 ghost use mathlib.Core.Path.{_≡_};
-ghost use lib.ListN.{getD};
-ghost use Rattle.jobs.specs.Jobs.{word-at, Asked, FourNumbers, Hexed, Parsed, Silent};
+ghost use Rattle.jobs.specs.Jobs.{Asked, FourNumbers, Hexed, Parsed};
 ghost use Rattle.std.specs.Options.{Cases};
-ghost use Rattle.std.specs.Orderings.{Decides};
+ghost use Rattle.std.specs.Vec.{made};
 use crate::job::Job;
 use crate::job::NoJob;
 use script::hex;
 use script::hex::NoHex;
-use script::number::number;
+use script::numbers::numbers;
+use script::words::is_silent;
+use script::words::word;
 use script::words::words;
+use std::alloc::AllocError;
 use std::alloc::Global;
 use wire::letter::Letter;
 
@@ -33,9 +36,10 @@ fn asked(heap: Global, words: &[&str]) -> Result<Option<Job>, NoJob>
     }
     let first = word(words, 0);
     if first == "write" {
-        return match four_numbers(words) {
-            Some(letter) => Ok(Some(Job::Write(letter))),
-            None => Err(NoJob::Numbers),
+        return match four_numbers(heap, words) {
+            Ok(Some(letter)) => Ok(Some(Job::Write(letter))),
+            Ok(None) => Err(NoJob::Numbers),
+            Err(_) => Err(NoJob::Memory),
         };
     }
     if first == "read" {
@@ -47,48 +51,27 @@ fn asked(heap: Global, words: &[&str]) -> Result<Option<Job>, NoJob>
     Err(NoJob::Unknown)
 }
 
-fn is_silent(words: &[&str]) -> bool
-    ensures { λ r. ⌜ Decides r (Silent (map (λ w. w .now) (now (words .entry)))) ⌝ }
-{
-    if words.is_empty() {
-        return true;
-    }
-    is_comment(word(words, 0))
-}
-
-fn is_comment(word: &str) -> bool
-    ensures { λ r. ⌜ Decides r (getD (now (word .entry)) 0 0 ≡ 35) ⌝ }
-{
-    let bytes = word.as_bytes();
-    if bytes.is_empty() {
-        return false;
-    }
-    bytes[0] == b'#'
-}
-
-// The word at a place, and nothing past the last one.
-fn word<'a>(words: &[&'a str], k: usize) -> &'a str
-    ensures { λ r. ⌜ now r ≡ word-at (map (λ w. w .now) (now (words .entry))) k ⌝ }
-{
-    if k < words.len() { words[k] } else { "" }
-}
-
 // The letter whose numbers follow the first word.
-fn four_numbers(words: &[&str]) -> Option<Letter>
-    ensures { λ r. ⌜ Cases r ((l : Letter) → FourNumbers (map (λ w. w .now) (now (words .entry))) l → ⊥) (FourNumbers (map (λ w. w .now) (now (words .entry)))) ⌝ }
+fn four_numbers(heap: Global, words: &[&str]) -> Result<Option<Letter>, AllocError>
+    ensures { λ r. ⌜ made r (λ found. Cases found ((l : Letter) → FourNumbers (map (λ w. w .now) (now (words .entry))) l → ⊥) (FourNumbers (map (λ w. w .now) (now (words .entry))))) ⌝ }
 {
-    if words.len() != 5 {
-        return None;
+    match numbers(heap, words)? {
+        Some(ns) => Ok(four(ns.as_slice())),
+        None => Ok(None),
     }
-    let kind = number(word(words, 1))?;
-    let origin = number(word(words, 2))?;
-    let slot = number(word(words, 3))?;
-    let code = number(word(words, 4))?;
+}
+
+fn four(ns: &[u64]) -> Option<Letter>
+    ensures { λ r. ⌜ Cases r (length (now (ns .entry)) ≡ 4 → ⊥) (λ l. l .kind ∷ l .origin ∷ l .slot ∷ l .code ∷ [] ≡ now (ns .entry)) ⌝ }
+{
+    let [kind, origin, slot, code] = ns else {
+        return None;
+    };
     Some(Letter {
-        kind,
-        origin,
-        slot,
-        code,
+        kind: *kind,
+        origin: *origin,
+        slot: *slot,
+        code: *code,
     })
 }
 

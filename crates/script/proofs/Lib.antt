@@ -1,2 +1,3 @@
 mod Cuts
+pub mod Follows
 mod Pairs

@@ -1,9 +1,11 @@
 // The words of a line.
+ghost use lib.ListN.{getD};
 ghost use mathlib.Core.List.{List, map};
 ghost use mathlib.Core.Path.{_≡_};
 ghost use Prim.Native.Nat.{ℕ};
-ghost use Rattle.script.specs.Words.{Words};
+ghost use Rattle.script.specs.Words.{word-at, Silent, Words};
 ghost use Rattle.std.specs.Of.Vec.{vec-items};
+ghost use Rattle.std.specs.Orderings.{Decides};
 ghost use Rattle.std.specs.Vec.{made};
 use std::alloc::AllocError;
 use std::alloc::Global;
@@ -18,6 +20,33 @@ pub fn words<'a>(heap: Global, line: &'a str) -> Result<Vec<&'a str>, AllocError
         words.push(word)?;
     }
     Ok(words)
+}
+
+// The word at a place, and nothing past the last one.
+pub fn word<'a>(words: &[&'a str], k: usize) -> &'a str
+    ensures { λ r. ⌜ now r ≡ word-at (map (λ w. w .now) (now (words .entry))) k ⌝ }
+{
+    if k < words.len() { words[k] } else { "" }
+}
+
+// Whether a line of these words is to be skipped.
+pub fn is_silent(words: &[&str]) -> bool
+    ensures { λ r. ⌜ Decides r (Silent (map (λ w. w .now) (now (words .entry)))) ⌝ }
+{
+    if words.is_empty() {
+        return true;
+    }
+    is_comment(word(words, 0))
+}
+
+fn is_comment(word: &str) -> bool
+    ensures { λ r. ⌜ Decides r (getD (now (word .entry)) 0 0 ≡ 35) ⌝ }
+{
+    let bytes = word.as_bytes();
+    if bytes.is_empty() {
+        return false;
+    }
+    bytes[0] == b'#'
 }
 
 #[cfg(test)]

@@ -1,7 +1,7 @@
 use borrow.Author.Needs.{needs}
-use Rattle.jobs.specs.Jobs.{word-at}
+use Rattle.script.specs.Words.{word-at}
 use Rattle.std.proofs.shelf.Lists.{getD-map, length-map, getD-past}
-use Rattle.jobs.proofs.parse.word.Needs as need
+use Rattle.script.proofs.words.word.Needs as need
 
 pub returns-then-k-words : need.returns-then-k-words
 unfolding word-at
