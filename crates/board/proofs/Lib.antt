@@ -1,0 +1,4 @@
+mod All
+mod Effects
+mod Granted
+mod Places

@@ -1,0 +1,4 @@
+pub mod Laws
+pub mod Meaning
+pub mod Places
+pub mod Rules
