@@ -1,0 +1,11 @@
+pub mod Carried
+pub mod Effects
+pub mod Kept
+pub mod Laws
+pub mod Moves
+pub mod Promises
+pub mod Rows
+pub mod Senders
+pub mod Steps
+pub mod Stills
+pub mod Votes
