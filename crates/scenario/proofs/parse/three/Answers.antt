@@ -1,0 +1,7 @@
+use mathlib.Core.Path.{refl, sym}
+use borrow.Author.Needs.{needs}
+use Rattle.std.proofs.shelf.Counted.{fill-by-all}
+use Rattle.scenario.proofs.parse.three.Needs as need
+
+pub returns : need.returns
+returns c = sym (fill-by-all _ (c .args .ns .now) 3 0 (search needs) (λ k lt. refl))
