@@ -1,4 +1,6 @@
 // The letter check and the writer, for firmware in C. Numbers and byte slices only: a slice is a pointer and a length there.
+#![tactic(auto)]
+
 ghost use Rattle.std.specs.Prelude.{◌≡◌, ℕ, ◌++◌, length, drop, is_ok, if◌then◌else◌};
 ghost use Rattle.firmware.specs.Answers.{Answers, letter_with, number_in};
 ghost use Rattle.roster.specs.declared.denial.Denial.TheVariants.{NoLetter};

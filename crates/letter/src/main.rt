@@ -1,4 +1,6 @@
 // The letter tool: one job a line on standard input, and its answer after it.
+#![tactic(auto)]
+
 use anyhow::anyhow;
 use jobs::answer::perform;
 use jobs::parse::parse;

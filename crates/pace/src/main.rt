@@ -1,4 +1,6 @@
 // A load for the comparison of speed: whole broadcasts on the letters carrier.
+#![tactic(auto)]
+
 mod load;
 
 use anyhow::anyhow;

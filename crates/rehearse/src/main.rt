@@ -1,4 +1,6 @@
 // Rehearses a scenario: each act with its answer, so that the output tells the whole story.
+#![tactic(auto)]
+
 mod story;
 
 use anyhow::anyhow;

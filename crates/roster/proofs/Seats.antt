@@ -1,7 +1,7 @@
 -- Sound seats of a roster. Assumes nothing.
-use Rattle.std.proofs.Common.{◌≡◌, ℕ, zero, suc, ◌+◌, ◌<◌, ◌≤◌, Bool, true, false, not, ◌&&◌, ◌||◌, eqb, leb, ◌⊎◌, sym, ap, ◌∙◌, subst, ap₂, inl, inr, add-one, arith}
+use Rattle.std.proofs.Common.{◌≡◌, ℕ, zero, suc, ◌+◌, ◌<◌, ◌≤◌, Bool, true, false, not, ◌&&◌, ◌||◌, eqb, leb, sym, ◌∙◌, subst, ap₂, inl, inr, add-one, arith}
 use Rattle.std.proofs.lemmas.Bool.{false≢true, and_parts, and_from, cases_eq, cases_Bool, eqb-true, le-leb, leb-true}
-use Rattle.roster.specs.Counting.{all, but, count, is_seat, member}
+use Rattle.roster.specs.Counting.{all, count, is_seat, member}
 use Rattle.roster.specs.Rosters.{same_roster, sound}
 use Rattle.roster.specs.declared.roster.Roster.{Roster}
 use Rattle.roster.proofs.Counting.{count_mono, many_sound, sound_some}

@@ -1,4 +1,6 @@
 // Who takes part, why a call is denied, what a move is and what a decision is.
+#![tactic(auto)]
+
 pub mod decision;
 pub mod denial;
 pub mod moves;

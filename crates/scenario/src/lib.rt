@@ -1,4 +1,6 @@
 // Scenarios as text: what a line asks for, and the plan that its acts make.
+#![tactic(auto)]
+
 pub mod command;
 pub mod line;
 pub mod parse;

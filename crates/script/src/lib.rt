@@ -1,4 +1,6 @@
 // What a program needs to read jobs from lines of text: words, numbers, and bytes in hex.
+#![tactic(auto)]
+
 pub mod hex;
 pub mod number;
 pub mod numbers;

@@ -1,4 +1,6 @@
 // The simplest agreement: an umpire whom all seats tell their code.
+#![tactic(auto)]
+
 #[cfg(test)]
 mod tests;
 pub mod umpire;

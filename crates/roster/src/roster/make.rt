@@ -59,8 +59,8 @@ impl Roster {
     pub fn is_same(&self, other: Roster) -> bool
         ensures { result ≡ same_roster self.now other }
     {
-        self.size.n() == other.size.n()
-            && self.size.t() == other.size.t()
-            && self.faulty == other.faulty
+        other.size.n() == self.size.n()
+            && other.size.t() == self.size.t()
+            && other.faulty == self.faulty
     }
 }
