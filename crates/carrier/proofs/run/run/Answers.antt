@@ -25,7 +25,7 @@ loop-k-preserved g c =
     let done = c.perform-entry.ensures in
     let inv = c.loop-k.invariant in
     let ok = done.keeps inv.2 in
-    let chosen = subst (λ a. g.P.Plan.chooses c.loop-k.plan (vec_items c.loop-k.history) (Some a) c.next.new.self) (sym done.act) (subst (λ h. g.P.Plan.chooses c.loop-k.plan h (Some c.in-Some.act) c.next.new.self) c.as-slice.ensures.value c.in-Some.ensures) in
+    let chosen = subst (λ a. g.P.Plan.chooses c.loop-k.plan (vec_items c.loop-k.history) (Some a) c.next.new.self) (sym done.act) (subst (λ h. g.P.Plan.chooses c.loop-k.plan h (Some c.in-Some.act) c.next.new.self) c.as_slice.ensures.value c.in-Some.ensures) in
     let pushed : vec_items c.push.new.self ≡ vec_items c.loop-k.history ++ (c.perform-entry.result ∷ []) = search rules in (
       subst (λ h. Kept start.fixed.roster h next) (sym pushed) (kept_next _ _ was next c.perform-entry.result inv.0 done.does (g.C.Carrier.lawful _ ok)),
       subst (λ h. Ran start h next) (sym pushed) (ran_next start _ was _ next inv.1 done.does),
@@ -35,10 +35,10 @@ loop-k-preserved g c =
     )
 
 -- the plan was over
-pub returns-in-default : goal.returns-in-default
-returns-in-default g c =
+pub returns-in_default : goal.returns-in_default
+returns-in_default g c =
     let inv = c.loop-k.invariant in
-    let over = subst (λ h. g.P.Plan.chooses c.loop-k.plan h None c.next.new.self) c.as-slice.ensures.value c.in-default.ensures in
+    let over = subst (λ h. g.P.Plan.chooses c.loop-k.plan h None c.next.new.self) c.as_slice.ensures.value c.in_default.ensures in
     record { law = inv.0.law; ran = (_, inv.1); planned = (c.loop-k.plan, inv.3, inr over); refused = tt }
 
 -- as many acts as were granted

@@ -8,10 +8,10 @@ use Rattle.scenario.proofs.parse.rest.Goals as goal
 pub returns-in-Some : goal.returns-in-Some
 returns-in-Some c =
     let other : c.args.command ≡ carrier → ⊥ = search rules in
-    let follow = MatchOption-at_some _ _ c.in-Some.ns c.in-Some.is c.in-ok-ns.ensures in
-    counted_rest _ c.args.command other c.as-slice.result.now c.counted.result (subst (Follow _) (sym c.as-slice.ensures.value) follow) c.counted.ensures
+    let follow = MatchOption-at_some _ _ c.in-Some.ns c.in-Some.is c.in_ok-ns.ensures in
+    counted_rest _ c.args.command other c.as_slice.result.now c.counted.result (subst (Follow _) (sym c.as_slice.ensures.value) follow) c.counted.ensures
 
 pub returns-in-None : goal.returns-in-None
 returns-in-None c =
     let other : c.args.command ≡ carrier → ⊥ = search rules in
-    λ l e r. MatchOption-at_none _ _ c.in-None.is c.in-ok-ns.ensures _ (rest_follow _ c.args.command other l e r)
+    λ l e r. MatchOption-at_none _ _ c.in-None.is c.in_ok-ns.ensures _ (rest_follow _ c.args.command other l e r)

@@ -4,8 +4,8 @@ use Rattle.script.specs.declared.hex.NoHex.TheVariants.{Digit, Odd}
 use Rattle.script.proofs.Pairs.{back}
 use Rattle.script.proofs.hex.decode.Goals as goal
 
-pub returns-then-not-all-digits : goal.returns-then-not-all-digits
-returns-then-not-all-digits c = search (rules, back {A = Global} c.args.text.now (Err Digit))
+pub returns-then-not-all_digits : goal.returns-then-not-all_digits
+returns-then-not-all_digits c = search (rules, back {A = Global} c.args.text.now (Err Digit))
 
 pub returns-then-digits-eq1 : goal.returns-then-digits-eq1
 returns-then-digits-eq1 c = search (rules, back {A = Global} c.args.text.now (Err Odd))

@@ -4,8 +4,8 @@ use Rattle.script.specs.Numbers.{Number}
 use Rattle.script.proofs.Follows.{Sofar, follow_more, no_follow}
 use Rattle.script.proofs.numbers.numbers.Goals as goal
 
-pub returns-in-default : goal.returns-in-default
-returns-in-default c = λ ns f. no_follow _ ns c.loop-k.k (search rules) (search (rules, length-map)) (subst (λ w. Number w None) c.word.ensures c.in-default.ensures.value) f
+pub returns-in_default : goal.returns-in_default
+returns-in_default c = λ ns f. no_follow _ ns c.loop-k.k (search rules) (search (rules, length-map)) (subst (λ w. Number w None) c.word.ensures c.in_default.ensures.value) f
 
 pub loop-k-preserved : goal.loop-k-preserved
 loop-k-preserved c =

@@ -9,7 +9,7 @@ pub loop-i-preserved : goal.loop-i-preserved
 loop-i-preserved c =
     let n = c.args.size.n in
     let row = by_seat c.args.row.now in
-    c.ahead-of-lead.ensures ∙ ap (ahead n row (get_or c.args.row.now c.loop-i.i None)) c.loop-i.invariant ∙ sym (leading_step n c.args.row.now c.loop-i.i)
+    c.ahead_of-lead.ensures ∙ ap (ahead n row (get_or c.args.row.now c.loop-i.i None)) c.loop-i.invariant ∙ sym (leading_step n c.args.row.now c.loop-i.i)
 
 pub returns : goal.returns
 returns c =

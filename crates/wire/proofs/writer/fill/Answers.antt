@@ -11,4 +11,4 @@ returns c =
     let xs = c.args.buffer.now in
     rw (put_front xs c.requires.room _ _ _ _ _ _ _ _ _ _ _ _ _ _ _ _)
     (ap (λ code. 1 ∷ 0 ∷ 1 ∷ l.kind ∷ 2 ∷ 0 ∷ 1 ∷ l.origin ∷ 3 ∷ 0 ∷ 1 ∷ l.slot ∷ 4 ∷ 0 ∷ 8 ∷ (code ++ drop 23 xs))
-    (bytes_of_swapped l.code c.swap-bytes.result c.swap-bytes.ensures))
+    (bytes_of_swapped l.code c.swap_bytes.result c.swap_bytes.ensures))

@@ -8,6 +8,6 @@ loop-seat-init c = all_none _
 pub loop-seat-preserved : goal.loop-seat-preserved
 loop-seat-preserved c = all_more _ _ (omega arith) c.loop-seat.invariant (search rules)
 
-pub returns-then-not-is-served : goal.returns-then-not-is-served
-returns-then-not-is-served c =
-    sym (all_fails _ 10 c.loop-seat.seat (omega arith) (omega arith) (sym c.if-not-is-served.ensures))
+pub returns-then-not-is_served : goal.returns-then-not-is_served
+returns-then-not-is_served c =
+    sym (all_fails _ 10 c.loop-seat.seat (omega arith) (omega arith) (sym c.if-not-is_served.ensures))

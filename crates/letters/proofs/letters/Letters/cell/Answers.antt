@@ -8,5 +8,5 @@ use Rattle.letters.proofs.letters.Letters.cell.Goals as goal
 pub returns : goal.returns
 returns c =
     ap (λ i. get_or c.args.self.now.cells.now i none)
-    (c.place-of-i.ensures.value ∙ ap (λ (z : Size). place z.n c.args.receiver c.args.origin c.args.slot) c.size.ensures)
+    (c.place_of-i.ensures.value ∙ ap (λ (z : Size). place z.n c.args.receiver c.args.origin c.args.slot) c.size.ensures)
     ∙ sym (row_at c.args.self.now.roster.size.n _ _ _ _ c.requires.inside)

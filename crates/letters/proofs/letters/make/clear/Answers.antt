@@ -5,5 +5,5 @@ use Rattle.letters.proofs.letters.make.clear.Goals as goal
 pub returns-then-count-cells : goal.returns-then-count-cells
 returns-then-count-cells c = record {
   after = search rules;
-  clear = clear_now c.args.size.n _ _ _ c.cells-needed-count.ensures c.clear-front.ensures;
+  clear = clear_now c.args.size.n _ _ _ c.cells_needed-count.ensures c.clear_front.ensures;
 }

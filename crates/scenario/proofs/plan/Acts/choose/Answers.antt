@@ -9,7 +9,7 @@ pub returns-in-Act : goal.returns-in-Act
 returns-in-Act c = goes_act _ _ _ (search rules) c.in-Act.is
 
 pub returns-in-Settle : goal.returns-in-Settle
-returns-in-Settle c = goes_settle _ _ _ _ (search rules) c.in-Settle.is c.next-of-settling.ensures.lines c.next-of-settling.ensures.at c.next-of-settling.ensures.first
+returns-in-Settle c = goes_settle _ _ _ _ (search rules) c.in-Settle.is c.next_of_settling.ensures.lines c.next_of_settling.ensures.at c.next_of_settling.ensures.first
 
-pub returns-in-default : goal.returns-in-default
-returns-in-default c = goes_none _ _ (search rules) c.in-default.not-Act c.in-default.not-Settle
+pub returns-in_default : goal.returns-in_default
+returns-in_default c = goes_none _ _ (search rules) c.in_default.not-Act c.in_default.not-Settle

@@ -13,19 +13,19 @@ returns g c =
     let carrier = g.C.Carrier in
     let below = g.B.Agreement in
     let s = c.args.self.now in
-    let e = c.put-above.new.self in
+    let e = c.put_above.new.self in
     let l = layer_of carrier below s in
     let seat = c.args.seat in
     let code = c.args.code in
-    let o = put_open l seat code c.in-default.ensures in
-    let did : is_ok c.put-above.result ≡ true → PutAbove carrier below s seat 1 code (with_code (record_of l seat) code) e = λ k. subst (λ (to : Record). PutAbove carrier below s seat 1 code to e) (ap (λ (r : Record). with_code r code) c.seat-to.ensures) (c.put-above.ensures.after k) in
-    let free : is_ok c.put-above.result ≡ true → l.carrier.puts seat 1 ≡ None = λ k. (put_granted l.carrier seat 1 (granted _ _ c.put-above.ensures.value k)).1 in
+    let o = put_open l seat code c.in_default.ensures in
+    let did : is_ok c.put_above.result ≡ true → PutAbove carrier below s seat 1 code (with_code (record_of l seat) code) e = λ k. subst (λ (to : Record). PutAbove carrier below s seat 1 code to e) (ap (λ (r : Record). with_code r code) c.seat-to.ensures) (c.put_above.ensures.after k) in
+    let free : is_ok c.put_above.result ≡ true → l.carrier.puts seat 1 ≡ None = λ k. (put_granted l.carrier seat 1 (granted _ _ c.put_above.ensures.value k)).1 in
     record {
-      value = c.put-above.ensures.value ∙ ap (λ d. answer d tt) (put_same l seat code o);
-      same = c.put-above.ensures.same;
+      value = c.put_above.ensures.value ∙ ap (λ d. answer d tt) (put_same l seat code o);
+      same = c.put_above.ensures.same;
       after = λ k. put_puts carrier below s e seat o.is_sound code (did k) (free k) (leb-true _ _ o.small) o.whole;
-      keeps = keeps_by carrier below s e c.put-above.result o.whole c.put-above.ensures.same (λ k good. record {
-        carrier_ok = c.put-above.ensures.keeps good.carrier_ok;
+      keeps = keeps_by carrier below s e c.put_above.result o.whole c.put_above.ensures.same (λ k good. record {
+        carrier_ok = c.put_above.ensures.keeps good.carrier_ok;
         below_ok = subst below.ok (sym (did k).same_below) good.below_ok;
         kept = put_kept carrier below s e seat o.is_sound code (did k) (free k) (leb-true _ _ o.small) good.kept;
       });

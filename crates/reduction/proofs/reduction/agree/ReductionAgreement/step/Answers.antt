@@ -15,7 +15,7 @@ returns-in-0 g c =
     let e = c.wake.new.self in
     let l = layer_of carrier below s in
     let by = c.args.by in
-    let whole : matched l ≡ true = sym c.if-not-is-whole.ensures in
+    let whole : matched l ≡ true = sym c.if-not-is_whole.ensures in
     let done = c.wake.ensures in
     let x : is_ok c.wake.result ≡ true → Granted l by = λ k. wake_granted l by (granted _ _ done.value k) in
     record {
@@ -41,7 +41,7 @@ returns-in-1 g c =
     let below = g.B.Agreement in
     let s = c.args.self.now in
     let l = layer_of carrier below s in
-    let whole : matched l ≡ true = sym c.if-not-is-whole.ensures in
+    let whole : matched l ≡ true = sym c.if-not-is_whole.ensures in
     let done = c.step.ensures in
     record {
       steps = record {
@@ -60,25 +60,25 @@ returns-in-1 g c =
       });
     }
 
-pub returns-in-default : goal.returns-in-default
-returns-in-default g c =
+pub returns-in_default : goal.returns-in_default
+returns-in_default g c =
     let carrier = g.C.Carrier in
     let below = g.B.Agreement in
     let s = c.args.self.now in
     let l = layer_of carrier below s in
-    let whole : matched l ≡ true = sym c.if-not-is-whole.ensures in
-    let done = c.step-in-default.ensures in
+    let whole : matched l ≡ true = sym c.if-not-is_whole.ensures in
+    let done = c.step-in_default.ensures in
     record {
       steps = record {
         woken = λ zero. absurd (omega arith);
         does = λ zero. absurd (omega arith);
         carried = λ one m. absurd (omega arith);
-        lowered = λ a two m. (subst (λ (by : Move). below.steps s.below by c.step-in-default.result c.step-in-default.new.self) c.below-by.ensures done.steps, refl, refl);
+        lowered = λ a two m. (subst (λ (by : Move). below.steps s.below by c.step-in_default.result c.step-in_default.new.self) c.below_by.ensures done.steps, refl, refl);
       };
       matched = λ m. absurd (both_ways (matched l) m whole);
       same = λ f. below_same s _ (done.same f);
       after = λ k. lowered_moves l _ (done.after k) whole;
-      keeps = keeps_by carrier below s _ c.step-in-default.result whole (λ f. below_same s _ (done.same f)) (λ k good. record {
+      keeps = keeps_by carrier below s _ c.step-in_default.result whole (λ f. below_same s _ (done.same f)) (λ k good. record {
         carrier_ok = good.carrier_ok;
         below_ok = done.keeps good.below_ok;
         kept = lowered_kept l _ (done.after k) good.kept;

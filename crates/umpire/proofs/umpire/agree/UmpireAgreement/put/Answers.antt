@@ -6,7 +6,7 @@ use Rattle.umpire.proofs.umpire.agree.UmpireAgreement.put.Goals as goal
 
 pub returns : goal.returns
 returns c =
-    let m = sym c.if-not-has-choice.ensures in
+    let m = sym c.if-not-has_choice.ensures in
     let may = may_note _ true _ _ _ c.note.ensures.value in
     record {
       value = c.note.ensures.value ∙ ap (λ d. answer d tt) (put_same c.args.self.now m c.args.seat c.args.code);

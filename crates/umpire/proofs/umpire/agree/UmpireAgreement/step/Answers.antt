@@ -6,7 +6,7 @@ use Rattle.umpire.proofs.umpire.agree.UmpireAgreement.step.Goals as goal
 
 pub returns-in-1 : goal.returns-in-1
 returns-in-1 c =
-    let m = sym c.if-not-has-choice.ensures in
+    let m = sym c.if-not-has_choice.ensures in
     let may = may_note _ false _ _ _ c.note.ensures.value in
     record {
       matched = search rules;
@@ -18,7 +18,7 @@ returns-in-1 c =
 
 pub returns-in-2 : goal.returns-in-2
 returns-in-2 c =
-    let m = sym c.if-not-has-choice.ensures in
+    let m = sym c.if-not-has_choice.ensures in
     let may = may_give _ _ _ c.give.ensures.value in
     record {
       matched = search rules;
