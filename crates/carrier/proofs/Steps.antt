@@ -6,7 +6,7 @@ use Rattle.roster.specs.Rosters.{sound}
 use Rattle.carrier.specs.declared.history.Act.{Act}
 use Rattle.carrier.specs.declared.history.Act.TheVariants.{Put as put_act, Move as move_act, Holds as holds_act, Still as still_act}
 use Rattle.carrier.specs.declared.history.Answer.{Answer}
-use Rattle.carrier.specs.declared.history.Answer.TheVariants.{Granted as granted, Denied as denied, Held as told, Still as still}
+use Rattle.carrier.specs.declared.history.Answer.TheVariants.{Granted as granted, Denied as denied, Held as told}
 use Rattle.carrier.specs.Histories.{Answers}
 use Rattle.carrier.specs.Views.{View, put_denial, holds_denial, Put, Moved}
 use Rattle.carrier.proofs.Puts.{passed, put_cases, put_granted, put_grows, put_here}

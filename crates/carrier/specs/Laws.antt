@@ -1,5 +1,5 @@
 -- What holds of a carrier after any calls, whatever the faulty seats do. Assumes nothing.
-use Rattle.std.specs.Prelude.{◌≡◌, ℕ, true, false, Some, None}
+use Rattle.std.specs.Prelude.{◌≡◌, ℕ, true, Some, None}
 use Rattle.roster.specs.Rosters.{sound}
 use Rattle.carrier.specs.Views.{View}
 

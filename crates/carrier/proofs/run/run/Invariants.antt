@@ -10,4 +10,4 @@ invariant-loop-k g l =
     × Ran (view l.initial.carrier) (vec_items l.history) (view l.carrier)
     × g.C.Carrier.ok l.carrier
     × Chosen g.P.Plan.chooses l.initial.plan [] (vec_items l.history) l.plan
-    × (vec_len l.history ≡ l.-k)
+    × (vec_len l.history ≡ l._k)
