@@ -116,8 +116,8 @@ module _ (b d : Board) (from to slot : ℕ) (by : Handed b from to slot d) (may 
 
 -- a denied call changes nothing, and so keeps all
 keeps_by : (b d : Board) (r : Result Unit Denial) → (is_ok r ≡ false → d ≡ b) → (is_ok r ≡ true → Kept b → Kept d) → Kept b → Kept d
-keeps_by b d r same granted-keeps kept =
-    elim (cases_Bool (is_ok r)) [ inl yes-ok ↦ granted-keeps yes-ok kept | inr denied ↦ rw (same denied) kept ]
+keeps_by b d r same granted_keeps kept =
+    elim (cases_Bool (is_ok r)) [ inl yes_ok ↦ granted_keeps yes_ok kept | inr denied ↦ rw (same denied) kept ]
 
 -- a call of the code, from what it promises: its answer, and what it changes where it is granted
 module _ (b d : Board) (wanted : Bool) (seat slot code : ℕ) (r : Result Unit Denial) (value : r ≡ answer (write_denial b wanted seat slot) tt) (after : is_ok r ≡ true → Written b seat slot code d) where

@@ -1,7 +1,7 @@
 -- What may be written on a board, what may be handed over, and what each then changes. Assumes nothing.
-use Rattle.std.specs.Prelude.{◌≡◌, ℕ, Bool, true, false, cond, not, ◌&&◌, is_some, Some, None, Option, ◌==◌, slice_set}
+use Rattle.std.specs.Prelude.{◌≡◌, ℕ, Bool, true, false, cond, not, ◌&&◌, is_ok, is_some, Some, None, Option, Result, ◌==◌, slice_set}
 use Rattle.carrier.specs.Views.{is_slot}
-use Rattle.roster.specs.Checks.{check}
+use Rattle.roster.specs.Checks.{answer, check}
 use Rattle.roster.specs.Counting.{is_seat}
 use Rattle.roster.specs.declared.denial.Denial.{Denial}
 use Rattle.roster.specs.declared.denial.Denial.TheVariants.{NoSuchAddress, OutOfRange, FaultySeat, PutBefore, NothingDue, HandedBefore}
@@ -16,9 +16,9 @@ module _ (b : Board) where
 
   -- a writing by a seat that has to be sound, or has to be faulty
   abbrev pub write_denial : Bool → ℕ → ℕ → Option Denial
-  write_denial as-sound seat slot =
+  write_denial as_sound seat slot =
       check (has seat slot) OutOfRange
-      (check (cond as-sound (sound b.roster seat) (not (sound b.roster seat))) FaultySeat
+      (check (cond as_sound (sound b.roster seat) (not (sound b.roster seat))) FaultySeat
       (check (not (is_some (writing b.written seat slot))) PutBefore
       None))
 
@@ -51,3 +51,9 @@ pub record Handed (b : Board) (from to slot : ℕ) (d : Board) : Type 0 where
   pub touched : d.touched ≡ true
   pub written : d.written ≡ b.written
   pub held : d.held ≡ slice_set b.held (held_place to from slot) (writing b.written from slot)
+
+-- what a move answers and does
+pub record Steps (b : Board) (by : Move) (r : Result (Unit {0}) Denial) (w : Board) : Type 0 where
+  pub value : r ≡ answer (step_denial b by) tt
+  pub stray : is_ok r ≡ true → by.kind ≡ 1 → Written b by.from by.slot by.code w
+  pub handed : is_ok r ≡ true → by.kind ≡ 2 → Handed b by.from by.to by.slot w

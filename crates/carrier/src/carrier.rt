@@ -1,9 +1,11 @@
 // One interface with one meaning for every carrier.
-ghost use Rattle.std.specs.Prelude.{◌≡◌, true, false, is_ok, Err};
+ghost use Rattle.std.specs.Prelude.{◌≡◌, true, false, is_ok, Err, Result};
 ghost use Rattle.carrier.specs.Laws.{Lawful};
 ghost use Rattle.carrier.specs.Views.{View, put_denial, holds_denial, Put, Moved};
 ghost use Rattle.roster.specs.Checks.{answer};
+ghost use Rattle.roster.specs.declared.denial.Denial.{Denial};
 ghost use Rattle.roster.specs.declared.denial.Denial.TheVariants.{IllMatched};
+ghost use Rattle.roster.specs.declared.moves.Move.{Move};
 
 use roster::denial::Denial;
 use roster::moves::Move;
@@ -21,6 +23,9 @@ pub trait Carrier {
 
     ghost lawful: { (c : Self) → ok c → Lawful (view c) };
 
+    // which moves are granted and what they do: the carrier's own rule
+    ghost steps: { Self → Move → Result (Unit {0}) Denial → Self → Type 0 };
+
     // A sound seat's put of a code for a slot, once.
     fn put(&mut self, seat: u64, slot: u64, code: u64) -> Result<(), Denial>
         ensures value { result ≡ answer (put_denial (view self.old) seat slot) tt }
@@ -30,6 +35,7 @@ pub trait Carrier {
 
     // A move: something handed over, or a stray act of a faulty seat. Which moves are granted is the carrier's own rule.
     fn step(&mut self, by: Move) -> Result<(), Denial>
+        ensures steps { steps self.old by result self.new }
         ensures matched { (view self.old).fixed.matched ≡ false → result ≡ Err IllMatched }
         ensures same { is_ok result ≡ false → self.new ≡ self.old }
         ensures after { is_ok result ≡ true → Moved (view self.old) (view self.new) }

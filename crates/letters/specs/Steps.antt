@@ -1,5 +1,5 @@
 -- The answer and the cells after a put or a move: one cell is written. Assumes nothing.
-use Rattle.std.specs.Prelude.{ℕ, List, Ok, Err, Result, slice_set}
+use Rattle.std.specs.Prelude.{◌≡◌, ℕ, List, Ok, Err, Result, slice_set}
 use Rattle.roster.specs.declared.denial.Denial.{Denial}
 use Rattle.roster.specs.declared.moves.Move.{Move}
 use Rattle.broadcast.specs.declared.cell.Cell.{Cell}
@@ -8,7 +8,7 @@ use Rattle.broadcast.specs.Cells.{with_put}
 use Rattle.broadcast.specs.Rows.{place}
 use Rattle.broadcast.specs.Rules.{counted}
 use Rattle.letters.specs.declared.letters.Letters.{Letters}
-use Rattle.letters.specs.Meanings.{cells_of, row_of}
+use Rattle.letters.specs.Meanings.{cells_of, due_in, row_of}
 
 module _ (l : Letters) where
   -- a granted put: the seat sends INIT, which its own cell keeps
@@ -25,3 +25,9 @@ module _ (l : Letters) where
 abbrev pub move_answer : Result Letter Denial → Result (Unit {0}) Denial
 move_answer (Ok letter) = Ok tt
 move_answer (Err e) = Err e
+
+-- what a move answers, and the cells after it: the same list
+pub record Steps (l : Letters) (by : Move) (r : Result (Unit {0}) Denial) (e : Letters) : Type 0 where
+  pub value : r ≡ move_answer (due_in l by)
+  pub cells : cells_of e ≡ after_move l by (due_in l by)
+  pub same_list : e.cells.ghost_name ≡ l.cells.ghost_name

@@ -41,11 +41,11 @@ goes_settle p d r q lt is same at first =
 
 -- a line that is neither
 pub goes_none : (p : Stand) (d : Line) → p.at < length p.lines → ((a : Act) → get_or p.lines p.at d ≡ act_line a → ⊥) → (get_or p.lines p.at d ≡ settle_line → ⊥) → Goes p None p
-goes_none p d lt no-act no-settle =
+goes_none p d lt no_act no_settle =
     let here = slice_get-get_or p.lines p.at d lt in
     record {
       same = refl;
-      act = λ z a e. absurd (no-act a cc);
-      settle = λ z e. absurd (no-settle cc);
+      act = λ z a e. absurd (no_act a cc);
+      settle = λ z e. absurd (no_settle cc);
       over = λ z e. refl;
     }

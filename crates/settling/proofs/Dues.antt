@@ -97,8 +97,8 @@ module _ (n t : ℕ) (r : Record) (codes flags : ℕ → Option ℕ) (below : Op
   one_due o e s h = none_some (Decide (tally n row).0) (sym h ∙ ap (decides n t row) e ∙ cond-true _ _ _ s)
 
   decided_if : (o : Option Decision) → cond (is_some o) None (decides n t row below) ≡ None → (decides n t row below ≡ None → ⊥) → is_some o ≡ true
-  decided_if None h no-act = absurd (no-act h)
-  decided_if (Some d) h no-act = refl
+  decided_if None h no_act = absurd (no_act h)
+  decided_if (Some d) h no_act = refl
 
   from_idle : (c : Option ℕ) → is_some c ≡ true → due_from n t r codes flags below c ≡ None → Idle
   from_idle None s h = absurd (true≢false (sym s))

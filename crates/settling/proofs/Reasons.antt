@@ -48,7 +48,7 @@ module _ (l : Layer) (q : ℕ) where
   reason x e = due_why n t (record_of l q) (held_row l q 1) (held_row l q 2) (decided_below l q) x e
 
   pub decide_open : (d : Decision) → Reason (Decide d) → (record_of l q).decided ≡ None
-  decide_open d (decide_due c open-decision on) = open-decision
+  decide_open d (decide_due c open_decision on) = open_decision
 
   module _ (fit : Fit l) (carried : CarrierLawful l.carrier) (kept : Kept l) (sq : sound (roster_of l) q ≡ true) where
     flag_by : (v : ℕ) (f : Bool) → puts_of l q ≡ Some v → all_but_faulty n t ≤ said n (held_row l q 1) → f ≡ leb (one_sound t) (votes n (held_row l q 1) v) → Flagged l q (as_code f)
@@ -56,14 +56,14 @@ module _ (l : Layer) (q : ℕ) where
     flag_by v false has enough e = flagged_zero v has refl (omega (arith, leb-false _ _ (sym e), said_split n (held_row l q 1) v, third))
 
     pub flag_reason : (f : Bool) → Reason (Flag f) → Flagged l q (as_code f)
-    flag_reason f (flag_due v g has open-flag enough e) = flag_by v f (sym (kept.seats q sq).code ∙ has) enough e
+    flag_reason f (flag_due v g has open_flag enough e) = flag_by v f (sym (kept.seats q sq).code ∙ has) enough e
 
     vote_by : (x : Bool) → all_but_faulty n t ≤ said n (settled_at l q) → x ≡ bit n t (settled_at l q) → Voted l q (as_code x)
     vote_by true enough e = voted_one refl (bit_one n t third (settled_at l q) (sym e) enough)
     vote_by false enough e = voted_zero refl (differ_when l fit carried q sq (bit_zero n t third (settled_at l q) (sym e) enough))
 
     pub vote_reason : (x : Bool) → Reason (Vote x) → Voted l q (as_code x)
-    vote_reason x (vote_due y open-vote enough e) = vote_by x enough e
+    vote_reason x (vote_due y open_vote enough e) = vote_by x enough e
 
     decide_by : (d : Decision) → On n t (settled_at l q) (decided_below l q) d → Decided l q d
     decide_by d (on_zero e is) = decided_nothing is (below_why l q (Code 0) e)
@@ -72,7 +72,7 @@ module _ (l : Layer) (q : ℕ) where
         decided_code f.code (is ∙ f.figure) (below_why l q (Code 1) e) (omega (arith, leb-true _ _ stands, f.count))
 
     pub decide_reason : (d : Decision) → Reason (Decide d) → Decided l q d
-    decide_reason d (decide_due c open-decision on) = decide_by d on
+    decide_reason d (decide_due c open_decision on) = decide_by d on
 
     four_checks : (a b c d : Bool) (e f g h : Denial) → a ≡ true → b ≡ true → c ≡ true → d ≡ true → check a e (check b f (check c g (check d h None))) ≡ None
     four_checks a b c d e f g h x y z w = rw (x, y, z, w)
@@ -85,9 +85,9 @@ module _ (l : Layer) (q : ℕ) where
 
     -- a flag that is due is taken by the carrier
     pub flag_taken : (f : Bool) → Reason (Flag f) → carrier_put_denial l.carrier q 2 ≡ None
-    flag_taken f (flag_due v g has open-flag enough e) =
+    flag_taken f (flag_due v g has open_flag enough e) =
         four_checks _ _ _ _ _ _ _ _ fit.carrier (and_from _ _ (sound_seat (roster_of l) q sq) refl) sq
-        (none_free _ (absent _ (sym open-flag ∙ (kept.seats q sq).flagged)))
+        (none_free _ (absent _ (sym open_flag ∙ (kept.seats q sq).flagged)))
 
     small_bit : (x : Bool) → leb (as_code x) l.below.fixed.largest ≡ true
     small_bit true = le-leb _ _ (omega (arith, fit.binary))
@@ -95,6 +95,6 @@ module _ (l : Layer) (q : ℕ) where
 
     -- and a bit by the agreement below
     pub vote_taken : (x : Bool) → Reason (Vote x) → put_denial l.below q (as_code x) ≡ None
-    vote_taken x (vote_due y open-vote enough e) =
+    vote_taken x (vote_due y open_vote enough e) =
         let sb = below_sound l fit q sq in
-        passing_check _ _ _ fit.below (four_checks _ _ _ _ _ _ _ _ (sound_seat l.below.fixed.roster q sb) sb (small_bit x) (none_free _ (absent _ (sym open-vote ∙ (kept.seats q sq).voted))))
+        passing_check _ _ _ fit.below (four_checks _ _ _ _ _ _ _ _ (sound_seat l.below.fixed.roster q sb) sb (small_bit x) (none_free _ (absent _ (sym open_vote ∙ (kept.seats q sq).voted))))

@@ -75,13 +75,13 @@ module _ (n t : ℕ) (codes wider : ℕ → Option ℕ) (more : Covers n codes w
   settles_covers flag v d (on_nothing f e k) = on_nothing f e (omega (arith, others_covers v))
 
   pub settled_covers : (flags wider_flags : ℕ → Option ℕ) → Covers n flags wider_flags → Covers n (settled n t codes flags) (settled n t wider wider_flags)
-  settled_covers flags wider_flags more-flags j d lo hi e =
+  settled_covers flags wider_flags more_flags j d lo hi e =
       let w = settled_why n t codes flags j d e in
       why_settled n t wider wider_flags j d (record {
         code = w.code;
         flag = w.flag;
         held = more j w.code lo hi w.held;
-        flagged = more-flags j w.flag lo hi w.flagged;
+        flagged = more_flags j w.flag lo hi w.flagged;
         settles = settles_covers w.flag w.code d w.settles;
       })
 

@@ -17,9 +17,9 @@ has_choice largest = nat_le 1 largest
 module _ (u : Umpire) where
   -- a put by a seat that has to be sound, or has to be faulty
   abbrev pub note_denial : Bool → ℕ → ℕ → Option Denial
-  note_denial as-sound seat code =
+  note_denial as_sound seat code =
       check (is_seat u.roster.size.n seat) OutOfRange
-      (check (cond as-sound (sound u.roster seat) (not (sound u.roster seat))) FaultySeat
+      (check (cond as_sound (sound u.roster seat) (not (sound u.roster seat))) FaultySeat
       (check (nat_le code u.largest) CodeTooLarge
       (check (not (is_some (by_seat u.puts seat))) PutBefore
       None)))

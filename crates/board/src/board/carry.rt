@@ -2,7 +2,7 @@
 ghost use Rattle.std.specs.Prelude.{◌≡◌, true, false, is_ok, Err};
 ghost use Rattle.board.specs.Laws.{fresh_kept, board_lawful};
 ghost use Rattle.board.specs.Meaning.{board_view, Kept};
-ghost use Rattle.board.specs.Rules.{step_denial, Written, Handed};
+ghost use Rattle.board.specs.Rules.{step_denial, Steps, Written, Handed};
 ghost use Rattle.carrier.specs.Views.{put_denial, Put, Moved};
 ghost use Rattle.roster.specs.Checks.{answer};
 ghost use Rattle.roster.specs.declared.denial.Denial.TheVariants.{IllMatched};
@@ -22,6 +22,8 @@ impl Carrier for Board {
 
     ghost lawful = { board_lawful };
 
+    ghost steps = { Steps };
+
     fn put(&mut self, seat: u64, slot: u64, code: u64) -> Result<(), Denial>
         ensures value { result ≡ answer (put_denial (board_view self.old) seat slot) tt }
         ensures same { is_ok result ≡ false → self.new ≡ self.old }
@@ -33,6 +35,7 @@ impl Carrier for Board {
     }
 
     fn step(&mut self, by: Move) -> Result<(), Denial>
+        ensures steps { Steps self.old by result self.new }
         ensures matched { (board_view self.old).fixed.matched ≡ false → result ≡ Err IllMatched }
         ensures same { is_ok result ≡ false → self.new ≡ self.old }
         ensures after { is_ok result ≡ true → Moved (board_view self.old) (board_view self.new) }

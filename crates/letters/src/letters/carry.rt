@@ -4,7 +4,7 @@ ghost use Rattle.broadcast.proofs.Laws as laws;
 ghost use Rattle.broadcast.specs.Meanings.{meaning};
 ghost use Rattle.carrier.specs.Views.{Moved, Put, holds_denial, put_denial};
 ghost use Rattle.letters.specs.Meanings.{cells_of, due_in, view_of};
-ghost use Rattle.letters.specs.Steps.{after_move, after_put, move_answer};
+ghost use Rattle.letters.specs.Steps.{Steps, after_move, after_put, move_answer};
 ghost use Rattle.roster.specs.Checks.{answer};
 ghost use Rattle.roster.specs.declared.denial.Denial.TheVariants.{IllMatched};
 
@@ -60,6 +60,8 @@ impl Carrier for Letters<'_> {
 
     ghost lawful = { λ s. laws.lawful s.roster s.cells.now s.touched s.clear };
 
+    ghost steps = { λ s by r e. Steps s by r e };
+
     // The seat sends INIT.
     fn put(&mut self, seat: u64, slot: u64, code: u64) -> Result<(), Denial>
         ensures value { result ≡ answer (put_denial (view_of self.old) seat slot) tt }
@@ -81,6 +83,7 @@ impl Carrier for Letters<'_> {
 
     // The receiver counts the letter that is due, and does what the rules ask.
     fn step(&mut self, by: Move) -> Result<(), Denial>
+        ensures steps { Steps self.old by result self.new }
         ensures matched { (view_of self.old).fixed.matched ≡ false → result ≡ Err IllMatched }
         ensures same { is_ok result ≡ false → self.new ≡ self.old }
         ensures after { is_ok result ≡ true → Moved (view_of self.old) (view_of self.new) }

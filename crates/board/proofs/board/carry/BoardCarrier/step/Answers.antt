@@ -9,6 +9,7 @@ returns-in-1 c = record {
   same = c.write.ensures.same;
   after = write_moves _ _ false _ _ _ _ c.write.ensures.value c.write.ensures.after refl;
   keeps = write_keeps _ _ false _ _ _ _ c.write.ensures.value c.write.ensures.after c.write.ensures.same;
+  steps = record { value = c.write.ensures.value ∙ ap (λ d. answer d tt) (step_one c.args.self.now c.args.by c.in-1.is); stray = λ k one. c.write.ensures.after k; handed = λ k two. absurd (omega arith) };
   value = c.write.ensures.value ∙ ap (λ d. answer d tt) (step_one c.args.self.now c.args.by c.in-1.is);
   stray = λ k one. c.write.ensures.after k;
   handed = λ k two. absurd (omega arith);
@@ -20,6 +21,7 @@ returns-in-2 c = record {
   same = c.hand.ensures.same;
   after = hand_moves _ _ _ _ _ _ c.hand.ensures.value c.hand.ensures.after;
   keeps = hand_keeps _ _ _ _ _ _ c.hand.ensures.value c.hand.ensures.after c.hand.ensures.same;
+  steps = record { value = c.hand.ensures.value ∙ ap (λ d. answer d tt) (step_two c.args.self.now c.args.by c.in-2.is); stray = λ k one. absurd (omega arith); handed = λ k two. c.hand.ensures.after k };
   value = c.hand.ensures.value ∙ ap (λ d. answer d tt) (step_two c.args.self.now c.args.by c.in-2.is);
   stray = λ k one. absurd (omega arith);
   handed = λ k two. c.hand.ensures.after k;

@@ -46,6 +46,7 @@ returns c =
       same = λ e. absurd (true≢false e);
       after = λ _. move_after s.roster s.cells.now s.touched by l granted _ _ at is;
       keeps = move_kept s.roster s.cells.now s.touched by l granted _ _ at is;
+      steps = record { value = ap move_answer (sym granted); cells = move_cells s.roster s.cells.now s.touched by l granted _ _ at is ∙ ap (after_move s by) (sym granted); same_list = refl };
       value = ap move_answer (sym granted);
       cells = move_cells s.roster s.cells.now s.touched by l granted _ _ at is ∙ ap (after_move s by) (sym granted);
       name = refl;
