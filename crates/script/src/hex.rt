@@ -108,7 +108,7 @@ mod tests {
     #[test]
     fn two_digits_are_a_byte(rt: HostRuntime) -> Result<(), Fail> {
         let bytes = decode(rt.alloc(), "01aBFF")?;
-        assert!(rt; bytes.as_slice() == &[0x01, 0xab, 0xff]);
+        assert!(rt; bytes.as_slice() == [0x01, 0xab, 0xff].as_slice());
         assert_eq!(rt;
             Hex(bytes.as_slice()).to_string(rt.alloc())?.as_str(),
             "01ABFF"

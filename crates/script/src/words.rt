@@ -51,7 +51,7 @@ mod tests {
     #[test]
     fn white_space_divides(rt: HostRuntime) -> Result<(), Fail> {
         let few = words(rt.alloc(), " a  bc\td ")?;
-        assert!(rt; few.as_slice() == &["a", "bc", "d"]);
+        assert!(rt; few.as_slice() == ["a", "bc", "d"].as_slice());
         let none = words(rt.alloc(), "")?;
         assert!(rt; none.is_empty());
         Ok(())

@@ -20,7 +20,7 @@ drained s t (x ∷ xs) run none =
 
 pub returns : goal.returns
 returns c =
-    let whole = ap split_whitespace_rest c.into_iter-word-iterator.ensures.into_iter-gives ∙ c.split_whitespace-word-items.ensures.rest in
-    let all = drained c.into_iter-word-iterator.result c.loop-word.word-iterator c.loop-word.yielded c.loop-word.yielded-by c.in-None.ensures.steps.1 in
+    let whole = ap split_whitespace_rest c.into_iter-word-iterator.ensures.into_iter_gives ∙ c.split_whitespace-word-items.ensures.rest in
+    let all = drained c.into_iter-word-iterator.result c.loop-word.word-iterator c.loop-word.yielded c.loop-word.yielded_by c.in-None.ensures.steps.1 in
     let words : Words c.args.line.now (map (λ x. x.now) (vec_items c.loop-word.words)) = rw c.loop-word.invariant (rw whole at all) in
     record { made = words; only = λ ws h. one_way c.args.line.now _ ws words h }
