@@ -1,7 +1,7 @@
 -- Two digits a byte. Assumes nothing.
 use Rattle.std.proofs.Common.{◌≡◌, ℕ, zero, suc, ◌+◌, ◌*◌, ◌/◌, ◌%◌, ◌<◌, true, List, [], ◌∷◌, ◌++◌, length, get_or, take, Ok, Err, vec_items, Result, Vec, sym, refl, ap, ◌∙◌, arith}
 use lib.Utf8.{encode}
-use Rattle.std.specs.List.{AllByRecursion as All}
+use Rattle.std.specs.List.{AllByRecursion}
 use Rattle.std.specs.Char.{digit_value}
 use Rattle.std.specs.Fmt.{digit_glyph}
 use Rattle.std.proofs.lemmas.Str.Ascii.{encode_ascii}
@@ -30,7 +30,7 @@ glyph_value : (d : ℕ) → d < 16 → digit_value (digit_glyph true d) ≡ d
 glyph_value d small = grind (arith, nat_tests)
 
 abbrev Bytes : List ℕ → Type 0
-Bytes bs = All (λ b. b < 256) bs
+Bytes bs = AllByRecursion (λ b. b < 256) bs
 
 hex_digits : (bs : List ℕ) → Bytes bs → HexDigits (hex_of bs)
 hex_digits [] all k h = omega arith

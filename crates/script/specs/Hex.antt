@@ -2,7 +2,7 @@
 use Rattle.std.specs.Prelude.{◌≡◌, ℕ, ◌+◌, ◌*◌, ◌/◌, ◌%◌, ◌<◌, true, List, [], ◌∷◌, length, Ok, Err, vec_items, Result, Vec, MatchResult, slice_index}
 use Rattle.script.specs.declared.hex.NoHex.{NoHex}
 use Rattle.script.specs.declared.hex.NoHex.TheVariants.{Digit, Odd, Memory}
-use Rattle.std.specs.List.{AllByRecursion as All}
+use Rattle.std.specs.List.{AllByRecursion}
 use Rattle.std.specs.Char.{digit_value}
 use Rattle.std.specs.Fmt.{digit_glyph}
 
@@ -30,4 +30,4 @@ Decoded text (Err Memory) = HexDigits text × (length text % 2 ≡ 0)
 
 -- what was written of bytes gives them back, unless memory is short
 abbrev pub ReadsBack : {A : Type 0} → List ℕ → Result (Vec ℕ A) NoHex → Type 0
-ReadsBack text r = (bytes : List ℕ) → All (λ b. b < 256) bytes → text ≡ hex_of bytes → MatchResult r (λ v. vec_items v ≡ bytes) (λ e. e ≡ Memory)
+ReadsBack text r = (bytes : List ℕ) → AllByRecursion (λ b. b < 256) bytes → text ≡ hex_of bytes → MatchResult r (λ v. vec_items v ≡ bytes) (λ e. e ≡ Memory)
