@@ -131,6 +131,10 @@ longest_front bs place within small fit stops =
           stops (omega arith) (omega arith) (subst (Allowed place) (get_or-take k bs place 0 more) (f.1 place (omega arith)));
     }
 
+-- what is allowed in the head
+pub allowed_head : (k b : ℕ) → k < 15 → Allowed k b → (get_or head_lows k 0 ≤ b) × (b ≤ get_or head_highs k 0)
+allowed_head k b h a = (omega (arith, get_or_append_left head_lows (replicate 8 0) 0 k h), omega (arith, get_or_append_left head_highs (replicate 8 255) 0 k h))
+
 past_head : (xs : List ℕ) (b k : ℕ) → length xs ≡ 15 → 15 ≤ k → k < 23 → get_or (xs ++ replicate 8 b) k 0 ≡ b
 past_head xs b k e h lt = get_or-append_right xs (replicate 8 b) 15 k 0 e h ∙ get_or-replicate 8 (k - 15) b 0 (omega arith)
 

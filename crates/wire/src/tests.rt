@@ -31,7 +31,7 @@ fn answer(letter: Letter) -> Result<(), Denial> {
 fn both_ways(rt: HostRuntime) -> Result<(), Fail> {
     let mut buffer = [7u8; 24];
     write(LETTER, &mut buffer)?;
-    assert_eq!(rt; &buffer[0..LETTER_LEN], BYTES);
+    assert_eq!(rt; &buffer[0..LETTER_LEN], BYTES.as_slice());
     assert_eq!(rt; buffer[LETTER_LEN], 7);
     assert_eq!(rt; place(&buffer), Some(LETTER_LEN));
     assert_eq!(rt; read(BYTES)?.letter(), LETTER);

@@ -1,11 +1,11 @@
-use Rattle.std.proofs.Common.{refl, arith, rules}
+use Rattle.std.proofs.Common.{refl, rules}
 use Rattle.std.proofs.lemmas.Bool.{false≢true}
 use Rattle.wire.proofs.Fronts.{letter_head, head_letter}
 use Rattle.wire.proofs.Readings.{long_enough}
 use Rattle.wire.proofs.reader.is_letter.Goals as goal
 
-pub returns-then-bytes-ne-LETTER-LEN : goal.returns-then-bytes-ne-LETTER-LEN
-returns-then-bytes-ne-LETTER-LEN c = (λ e. absurd (false≢true e), λ x. absurd (c.if-bytes-ne-LETTER-LEN.true (long_enough _ x)))
+pub returns-then-bytes-ne-LETTER_LEN : goal.returns-then-bytes-ne-LETTER_LEN
+returns-then-bytes-ne-LETTER_LEN c = (λ e. absurd (false≢true e), λ x. absurd (c.if-bytes-ne-LETTER_LEN.true (long_enough _ x)))
 
 pub returns-then-not-word_within : goal.returns-then-not-word_within
 returns-then-not-word_within c = (λ e. absurd (false≢true e), λ x. c.if-not-word_within.ensures.1 (letter_head _ x).kind)
