@@ -1,5 +1,5 @@
 -- The meaning of an agreement, and what its calls do to it. Assumes nothing.
-use Rattle.std.specs.Prelude.{◌≡◌, ℕ, Bool, true, false, cond, not, is_some, Some, None, Option, ◌==◌, nat_le}
+use Rattle.std.specs.Prelude.{◌≡◌, ℕ, Bool, false, cond, not, is_some, Some, None, Option, ◌==◌, nat_le}
 use Rattle.roster.specs.Checks.{check}
 use Rattle.roster.specs.Counting.{is_seat}
 use Rattle.roster.specs.declared.decision.Decision.{Decision}

@@ -1,5 +1,5 @@
 -- What the calls of a reduction do to its meaning, and that they keep what is to be kept. Assumes nothing.
-use Rattle.std.proofs.Common.{◌≡◌, ℕ, ◌≤◌, Bool, true, false, cond, not, ◌&&◌, eqb, leb, List, is_some, is_ok, Some, None, Ok, Err, Option, Result, sym, refl, ap, ◌∙◌, subst, inl, inr, arith}
+use Rattle.std.proofs.Common.{◌≡◌, ℕ, ◌≤◌, Bool, true, false, cond, not, ◌&&◌, eqb, leb, List, is_some, is_ok, Some, None, Option, Result, sym, refl, ap, ◌∙◌, subst, inl, inr, arith}
 use Rattle.std.proofs.lemmas.Bool.{true≢false, and_from, cases_Bool}
 use Rattle.roster.specs.Checks.{answer, check}
 use Rattle.roster.specs.Counting.{is_seat}
@@ -8,7 +8,7 @@ use Rattle.roster.specs.declared.denial.Denial.{Denial}
 use Rattle.roster.specs.declared.denial.Denial.TheVariants.{IllMatched, OutOfRange, FaultySeat, CodeTooLarge, PutBefore}
 use Rattle.roster.specs.declared.moves.Move.{Move}
 use Rattle.carrier.specs.declared.carrier.Carrier.{Ghosts as CarrierGhosts}
-use Rattle.carrier.specs.Views.{View as Carried, Moved as CarrierMoved, is_slot, put_denial as carrier_put_denial}
+use Rattle.carrier.specs.Views.{View as Carried, is_slot, put_denial as carrier_put_denial}
 use Rattle.carrier.proofs.Puts as above
 use Rattle.agreement.specs.declared.agreement.Agreement.{Ghosts}
 use Rattle.agreement.specs.Views.{View, Moved, Put, put_denial, seat_denial}
@@ -16,15 +16,15 @@ use Rattle.agreement.proofs.Puts as lower
 use Rattle.settling.specs.declared.record.Due.{Due}
 use Rattle.settling.specs.declared.record.Due.TheVariants.{Flag, Vote, Decide}
 use Rattle.settling.specs.declared.record.Record.{Record}
-use Rattle.settling.specs.Layers.{Layer, after, as_code, changed, due_at, matched, meaning, record_of, roster_of, size_n, with_code, with_decision, with_flag, with_vote}
+use Rattle.settling.specs.Layers.{Layer, after, as_code, changed, due_at, matched, meaning, record_of, roster_of, size_n, with_code}
 use Rattle.settling.specs.Wakes.{act_denial, due_denial, wake_denial}
 use Rattle.settling.proofs.Effects as effects
 use Rattle.settling.proofs.Kept as kept
-use Rattle.settling.proofs.Layers.{Fit, fit_why}
+use Rattle.settling.proofs.Layers.{fit_why}
 use Rattle.settling.proofs.Reasons as reasons
 use Rattle.reduction.specs.declared.reduction.Reduction.{Reduction}
 use Rattle.reduction.specs.Good.{Good, Ok as Holds}
-use Rattle.reduction.specs.Parts.{Changed, Does, Kept, PutAbove, PutBelow, layer_of}
+use Rattle.reduction.specs.Parts.{Does, Kept, PutAbove, PutBelow, layer_of}
 
 -- a wake that is granted
 pub record Granted (l : Layer) (by : Move) : Type 0 where

@@ -1,5 +1,5 @@
 -- What every call of a reduction keeps, if it is matched. Assumes nothing.
-use Rattle.std.specs.Prelude.{◌≡◌, true, false}
+use Rattle.std.specs.Prelude.{◌≡◌, true}
 use Rattle.carrier.specs.declared.carrier.Carrier.{Ghosts as CarrierGhosts}
 use Rattle.agreement.specs.declared.agreement.Agreement.{Ghosts}
 use Rattle.agreement.specs.Laws.{Lawful}

@@ -1,5 +1,5 @@
 -- A reduction by the meanings of its parts, and what its calls do to it. Assumes nothing.
-use Rattle.std.specs.Prelude.{◌≡◌, ℕ, ◌+◌, ◌-◌, Bool, true, List, is_ok, Some, Result, slice_set}
+use Rattle.std.specs.Prelude.{◌≡◌, ℕ, ◌+◌, ◌-◌, true, is_ok, Some, Result, slice_set}
 use Rattle.roster.specs.Checks.{answer}
 use Rattle.roster.specs.declared.denial.Denial.{Denial}
 use Rattle.roster.specs.declared.moves.Move.{Move}

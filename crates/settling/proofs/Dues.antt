@@ -1,6 +1,6 @@
 -- Why an act is due, and what is done where none is. Assumes nothing.
-use Rattle.std.proofs.Common.{◌≡◌, ℕ, ◌≤◌, Bool, true, false, cond, not, ◌&&◌, eqb, leb, ◌⊎◌, is_some, Some, None, Option, sym, refl, ap, ◌∙◌, subst, inl, inr, ⊎_elim, arith}
-use Rattle.std.proofs.lemmas.Bool.{and_parts, and_cases, cases_Bool, cond-true, cond-false, eqb-true, eqb-false, eq-eqb, ne_eqb, and_from, leb-true, leb-false, le-leb, not-true, not-false, true≢false, both_ways}
+use Rattle.std.proofs.Common.{◌≡◌, ℕ, ◌≤◌, Bool, true, false, cond, not, ◌&&◌, eqb, leb, ◌⊎◌, is_some, Some, None, Option, sym, refl, ap, ◌∙◌, subst, inl, inr, arith}
+use Rattle.std.proofs.lemmas.Bool.{and_parts, cond-true, eqb-true, leb-true, le-leb, not-true, true≢false, both_ways}
 use Rattle.roster.specs.Quorums.{one_sound, all_but_faulty}
 use Rattle.roster.specs.Votes.{said, votes}
 use Rattle.roster.specs.declared.decision.Decision.{Decision}

@@ -1,29 +1,18 @@
 -- What each call does to the meaning of a reduction, and that it keeps what is to be kept. Assumes nothing.
-use Rattle.std.proofs.Common.{◌≡◌, ℕ, ◌-◌, ◌<◌, ◌≤◌, Bool, true, false, cond, not, ◌&&◌, ◌||◌, eqb, leb, ◌⊎◌, List, length, get_or, set, is_some, Some, None, Option, sym, refl, ap, ◌∙◌, subst, ap₂, inl, inr, ⊎_elim, arith}
+use Rattle.std.proofs.Common.{◌≡◌, ℕ, ◌-◌, ◌≤◌, Bool, true, false, cond, not, ◌&&◌, eqb, leb, ◌⊎◌, List, length, get_or, is_some, Some, None, Option, sym, refl, ap, ◌∙◌, subst, ap₂, inl, inr, arith}
 use Rattle.std.proofs.lemmas.List.{get_or-set_same, get_or-set_other}
-use Rattle.std.proofs.lemmas.Bool.{and_left, and_right, or_from, not_from_true, cases_Bool, cases_eq, cond-true, cond-false, leb-false, leb-true, ne_eqb, eq-eqb}
-use Rattle.roster.specs.Quorums.{one_sound, all_but_faulty}
+use Rattle.std.proofs.lemmas.Bool.{and_left, and_right, or_from, not_from_true, cases_eq, cond-true}
 use Rattle.roster.specs.Rosters.{same_roster, sound}
-use Rattle.roster.specs.Votes.{said, votes, others}
 use Rattle.roster.specs.declared.decision.Decision.{Decision}
-use Rattle.roster.specs.declared.decision.Decision.TheVariants.{Nothing, Code}
 use Rattle.roster.proofs.Seats.{sound_within}
-use Rattle.roster.proofs.Voting.{said_split}
-use Rattle.carrier.specs.Laws.{Lawful as CarrierLawful}
 use Rattle.carrier.specs.Views.{View as Carried, Fixed as CarrierFixed, Put as CarrierPut, Moved as CarrierMoved}
 use Rattle.carrier.proofs.Puts as carrier
 use Rattle.agreement.specs.Views.{Fixed, View, Put, Moved}
 use Rattle.agreement.proofs.Puts as agreement
 use Rattle.settling.specs.declared.record.Record.{Record}
-use Rattle.settling.specs.Layers.{Layer, after, blank, changed, decided_below, held_row, matched, meaning, record_of, roster_of, settled_at, size_n, size_t, with_code, with_decision, with_flag, with_vote}
-use Rattle.settling.specs.Rules.{bit, settled, stands_out, tally}
-use Rattle.settling.proofs.Dues.{On, on_one, on_zero}
+use Rattle.settling.specs.Layers.{Layer, after, blank, changed, matched, meaning, record_of, roster_of, with_code, with_decision, with_flag, with_vote}
 use Rattle.settling.proofs.Grows.{Grows, Next, decided_grows, flagged_grows, frame, kept_next, voted_grows}
-use Rattle.settling.proofs.Kept.{Decided, Flagged, Kept, Seat, Voted, puts_of}
-use Rattle.settling.proofs.Kept.{decided_code, decided_nothing, flagged_one, flagged_zero, voted_one, voted_zero}
-use Rattle.settling.proofs.Laws.{differ_when}
-use Rattle.settling.proofs.Layers.{Fit, below_why, fit_why}
-use Rattle.settling.proofs.Tally.{bit_one, bit_zero, stands_why}
+use Rattle.settling.proofs.Kept.{Decided, Flagged, Kept, Voted, puts_of}
 
 none_some : {A X : Type 0} (o : Option A) (x : A) → o ≡ None → o ≡ Some x → X
 none_some o x p q = let z : ◌≡◌ {A = ℕ} 0 1 = cc in absurd (omega arith)

@@ -1,15 +1,13 @@
 -- What holdings, puts and decisions that only grow leave as it was. Assumes nothing.
-use Rattle.std.proofs.Common.{◌≡◌, ℕ, ◌≤◌, true, ◌⊎◌, is_some, Some, None, Option, sym, refl, ap, ◌∙◌, subst, inl, inr, ⊎_elim, arith}
+use Rattle.std.proofs.Common.{◌≡◌, ℕ, ◌≤◌, true, ◌⊎◌, is_some, Some, None, Option, sym, refl, ap, ◌∙◌, subst, inl, ⊎_elim, arith}
 use Rattle.roster.specs.Rosters.{sound}
 use Rattle.roster.specs.declared.decision.Decision.{Decision}
 use Rattle.roster.specs.declared.denial.Denial.{Denial}
 use Rattle.roster.proofs.Voting.{Covers, passing_covers}
-use Rattle.carrier.specs.Views.{View as Carried}
 use Rattle.agreement.specs.Laws.{Putter, Differ}
-use Rattle.agreement.specs.Views.{View}
 use Rattle.settling.specs.declared.record.Record.{Record}
 use Rattle.settling.specs.Layers.{Layer, held_row, record_of, roster_of, settled_at, size_n, size_t, told}
-use Rattle.settling.specs.Rules.{is_code, support}
+use Rattle.settling.specs.Rules.{is_code}
 use Rattle.settling.proofs.Kept.{Decided, Flagged, Kept, Seat, Voted, puts_of}
 use Rattle.settling.proofs.Kept.{decided_code, decided_nothing, flagged_one, flagged_zero, voted_one, voted_zero}
 use Rattle.settling.proofs.Layers.{fixed_same, with_fixed}

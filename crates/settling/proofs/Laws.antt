@@ -1,10 +1,10 @@
 -- Why a reduction is an agreement, by the laws of the carrier and of the agreement that it stands on. Assumes nothing.
-use Rattle.std.proofs.Common.{◌≡◌, ℕ, zero, suc, ◌+◌, ◌-◌, ◌*◌, ◌<◌, ◌≤◌, Bool, true, false, cond, not, ◌&&◌, ◌||◌, eqb, leb, ◌⊎◌, get_or, replicate, is_some, Some, None, Option, sym, refl, ap, ◌∙◌, subst, inl, inr, ⊎_elim, arith}
+use Rattle.std.proofs.Common.{◌≡◌, ℕ, zero, suc, ◌-◌, ◌*◌, ◌<◌, ◌≤◌, Bool, true, false, cond, not, ◌&&◌, ◌||◌, ◌⊎◌, get_or, replicate, is_some, Some, None, Option, sym, refl, ap, ◌∙◌, inl, inr, arith}
 use Rattle.std.proofs.lemmas.Bool.{false≢true, and_parts, cases_eq, cond-true, not-true}
 use Rattle.roster.specs.Counting.{both}
-use Rattle.roster.specs.Quorums.{one_sound, all_but_faulty, sound_rest}
+use Rattle.roster.specs.Quorums.{all_but_faulty, sound_rest}
 use Rattle.roster.specs.Rosters.{sound}
-use Rattle.roster.specs.Votes.{differs, is, passing, said, votes, others}
+use Rattle.roster.specs.Votes.{differs, is, passing, said}
 use Rattle.roster.specs.declared.decision.Decision.{Decision}
 use Rattle.roster.specs.declared.decision.Decision.TheVariants.{Nothing, Code}
 use Rattle.roster.proofs.Counting.{count_both, count_some}
@@ -17,11 +17,11 @@ use Rattle.settling.specs.declared.record.Record.{Record}
 use Rattle.settling.specs.Layers.{Layer, blank, decided_below, due_at, held_row, idle, is_idle, matched, meaning, record_of, roster_of, settled_at, size_n, size_t}
 use Rattle.settling.specs.Rules.{is_code, is_nothing, stands_out, support}
 use Rattle.settling.proofs.Dues.{Idle, idle_why}
-use Rattle.settling.proofs.Kept.{Decided, Flagged, Kept, Seat, Voted, puts_of}
+use Rattle.settling.proofs.Kept.{Decided, Flagged, Kept, Voted, puts_of}
 use Rattle.settling.proofs.Kept.{decided_code, decided_nothing, flagged_one, flagged_zero, voted_one, voted_zero}
 use Rattle.settling.proofs.Layers.{Fit, below_is, below_sound, fit_why, held_is, held_why, rows_agree, sound_below}
 use Rattle.settling.proofs.Settled.{Settles, on_code, on_nothing, settled_covers, settled_one, settled_why, votes_covers, others_covers, why_settled}
-use Rattle.settling.proofs.Tally.{StandsOut, TwoFigures, bit_zero, is_code_why, is_nothing_why, leans, leans_why, stands_when, support_seat}
+use Rattle.settling.proofs.Tally.{StandsOut, TwoFigures, is_code_why, is_nothing_why, leans, leans_why, stands_when, support_seat}
 
 some_is : {A : Type 0} (o : Option A) (x : A) → o ≡ Some x → is_some o ≡ true
 some_is o x e = ap is_some e

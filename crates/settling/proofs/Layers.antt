@@ -1,20 +1,17 @@
 -- What a reduction's parts say, where they fit each other. Assumes nothing.
-use Rattle.std.proofs.Common.{◌≡◌, ℕ, ◌≤◌, Bool, true, false, not, ◌&&◌, eqb, leb, Some, None, Option, sym, refl, ap, ◌∙◌, subst, ap₂, arith}
+use Rattle.std.proofs.Common.{◌≡◌, ℕ, ◌≤◌, Bool, true, eqb, Some, None, Option, sym, ◌∙◌, ap₂, arith}
 use Rattle.std.proofs.lemmas.Bool.{and_parts, and_from, eqb-true, leb-true}
 use Rattle.roster.specs.Checks.{check}
-use Rattle.roster.specs.Counting.{is_seat}
 use Rattle.roster.specs.Rosters.{same_roster, sound}
 use Rattle.roster.specs.declared.decision.Decision.{Decision}
 use Rattle.roster.specs.declared.denial.Denial.{Denial}
 use Rattle.roster.specs.declared.denial.Denial.TheVariants.{IllMatched, OutOfRange, FaultySeat}
-use Rattle.roster.proofs.Seats.{same_sound, seat_from, sound_within, sound_seat}
+use Rattle.roster.proofs.Seats.{same_sound, seat_from, sound_seat}
 use Rattle.carrier.specs.Laws.{Lawful as CarrierLawful}
-use Rattle.carrier.specs.Views.{Fixed as CarrierFixed, holds_denial, is_slot}
-use Rattle.agreement.specs.Views.{Fixed, decision_denial}
-use Rattle.settling.specs.Layers.{Layer, decided_below, fits, held_row, matched, roster_of, settled_at, size_n, size_t, told}
-use Rattle.settling.specs.Rules.{settled}
-use Rattle.roster.proofs.Voting.{Covers}
-use Rattle.settling.proofs.Settled.{Agrees, settled_covers}
+use Rattle.carrier.specs.Views.{Fixed as CarrierFixed, is_slot}
+use Rattle.agreement.specs.Views.{Fixed}
+use Rattle.settling.specs.Layers.{Layer, decided_below, fits, held_row, matched, roster_of, size_n, size_t, told}
+use Rattle.settling.proofs.Settled.{Agrees}
 
 pub record Fit (l : Layer) : Type 0 where
   pub carrier : l.carrier.fixed.matched ≡ true

@@ -1,12 +1,12 @@
 -- An act that is due has its reason, and the part that it goes to takes it. Assumes nothing.
-use Rattle.std.proofs.Common.{◌≡◌, ℕ, ◌*◌, ◌<◌, ◌≤◌, Bool, true, false, cond, not, ◌&&◌, leb, ◌⊎◌, is_some, Some, None, Option, sym, refl, ap, ◌∙◌, subst, inl, inr, arith}
+use Rattle.std.proofs.Common.{◌≡◌, ℕ, ◌*◌, ◌<◌, ◌≤◌, Bool, true, false, not, leb, is_some, Some, None, Option, sym, refl, ◌∙◌, arith}
 use Rattle.std.proofs.lemmas.Bool.{false≢true, leb-false, leb-true, le-leb, and_from}
 use Rattle.roster.specs.Checks.{check}
 use Rattle.roster.specs.Quorums.{one_sound, all_but_faulty}
 use Rattle.roster.specs.Rosters.{sound}
 use Rattle.roster.specs.Votes.{said, votes}
 use Rattle.roster.specs.declared.decision.Decision.{Decision}
-use Rattle.roster.specs.declared.decision.Decision.TheVariants.{Nothing, Code}
+use Rattle.roster.specs.declared.decision.Decision.TheVariants.{Code}
 use Rattle.roster.specs.declared.denial.Denial.{Denial}
 use Rattle.roster.proofs.Seats.{sound_seat}
 use Rattle.roster.proofs.Voting.{said_split}
@@ -16,7 +16,7 @@ use Rattle.agreement.specs.Views.{put_denial}
 use Rattle.settling.specs.declared.record.Due.{Due}
 use Rattle.settling.specs.declared.record.Due.TheVariants.{Flag, Vote, Decide}
 use Rattle.settling.specs.Layers.{Layer, as_code, decided_below, due_at, held_row, record_of, roster_of, settled_at, size_n, size_t}
-use Rattle.settling.specs.Rules.{bit, tally}
+use Rattle.settling.specs.Rules.{bit}
 use Rattle.settling.proofs.Dues.{On, Why, due_why}
 use Rattle.settling.proofs.Dues.{decide_due, flag_due, on_one, on_zero, vote_due}
 use Rattle.settling.proofs.Kept.{Decided, Flagged, Kept, Voted, puts_of}

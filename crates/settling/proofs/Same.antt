@@ -2,7 +2,7 @@
 use Rattle.std.proofs.Common.{◌≡◌, ℕ, zero, suc, ◌≤◌, Bool, true, false, cond, not, ◌&&◌, eqb, ltb, leb, is_some, Some, None, Option, sym, refl, ap, ◌∙◌, ap₂, arith}
 use Rattle.std.proofs.lemmas.Bool.{cond-true, cond-false}
 use Rattle.roster.specs.Quorums.{one_sound, all_but_faulty, sound_rest}
-use Rattle.roster.specs.Votes.{differs, is, others, passing, said, votes}
+use Rattle.roster.specs.Votes.{differs, is, passing, said, votes}
 use Rattle.roster.specs.declared.decision.Decision.{Decision}
 use Rattle.roster.specs.declared.decision.Decision.TheVariants.{Nothing, Code}
 use Rattle.roster.proofs.Counting.{count_same}
@@ -11,7 +11,7 @@ use Rattle.settling.specs.declared.record.Due.{Due}
 use Rattle.settling.specs.declared.record.Due.TheVariants.{Flag, Vote, Decide}
 use Rattle.roster.specs.declared.size.Size.{Size}
 use Rattle.settling.specs.Layers.{Layer, decided_below, due_at, held_row, record_of, roster_of, size_n, size_t}
-use Rattle.settling.specs.Rules.{ahead, bit, decides, decides_on, due, due_for, due_from, figures, is_code, is_figure, leading, settled, settled_by, settled_from, stands_out, support, tally}
+use Rattle.settling.specs.Rules.{ahead, bit, decides, decides_on, due, due_for, due_from, is_code, is_figure, leading, settled, settled_by, settled_from, support, tally}
 
 abbrev pub Same : {A : Type 0} → ℕ → (ℕ → Option A) → (ℕ → Option A) → Type 0
 Same n row other = (j : ℕ) → 1 ≤ j → j ≤ n → row j ≡ other j

@@ -1,5 +1,5 @@
 -- Why an origin is settled, and that it stays so. Assumes nothing.
-use Rattle.std.proofs.Common.{◌≡◌, ℕ, ◌≤◌, Bool, true, false, cond, ◌&&◌, eqb, leb, ◌⊎◌, Some, None, Option, sym, refl, ap, ◌∙◌, inl, inr, ⊎_elim, arith}
+use Rattle.std.proofs.Common.{◌≡◌, ℕ, ◌≤◌, ◌&&◌, eqb, leb, Some, None, Option, sym, refl, ap, ◌∙◌, inl, inr, arith}
 use Rattle.std.proofs.lemmas.Bool.{and_parts, and_from, and_left, eqb-true, eq-eqb, le-leb, leb-true, cond-true, cond-false, cases_Bool, ne_eqb}
 use Rattle.roster.specs.Quorums.{one_sound}
 use Rattle.roster.specs.Votes.{votes, others, is, differs}

@@ -1,6 +1,6 @@
 -- What the tally and the bit say of the row that they are taken of. Assumes nothing.
-use Rattle.std.proofs.Common.{◌≡◌, ℕ, zero, suc, ◌+◌, ◌-◌, ◌*◌, ◌<◌, ◌≤◌, Bool, true, false, cond, not, ◌&&◌, eqb, ltb, leb, ◌⊎◌, List, get_or, is_some, Some, None, Option, sym, refl, ap, ◌∙◌, subst, inl, inr, ⊎_elim, add-one, arith}
-use Rattle.std.proofs.lemmas.Bool.{false≢true, and_parts, and_cases, and_from, cases_Bool, cases_eq, cases_lt, cond-true, cond-false, eqb-true, eqb-false, eq-eqb, le-leb, leb-true, leb-false, ltb-true, ltb-false, not-true}
+use Rattle.std.proofs.Common.{◌≡◌, ℕ, zero, suc, ◌+◌, ◌-◌, ◌*◌, ◌<◌, ◌≤◌, Bool, true, false, cond, not, ◌&&◌, eqb, ltb, ◌⊎◌, List, get_or, is_some, Some, None, Option, sym, refl, ap, ◌∙◌, subst, inl, inr, ⊎_elim, add-one, arith}
+use Rattle.std.proofs.lemmas.Bool.{false≢true, and_parts, and_cases, cases_Bool, cases_eq, cases_lt, eqb-true, eqb-false, eq-eqb, le-leb, leb-true, leb-false, ltb-true, ltb-false, not-true}
 use Rattle.roster.specs.Counting.{but}
 use Rattle.roster.specs.Quorums.{all_but_faulty, sound_rest}
 use Rattle.roster.specs.Votes.{by_seat, passing, said}

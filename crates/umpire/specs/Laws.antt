@@ -1,5 +1,5 @@
 -- Why an umpire is an agreement. Only proofs: nothing here needs to be believed. Assumes nothing.
-use Rattle.std.specs.Prelude.{◌≡◌, ℕ, ◌-◌, ◌≤◌, Bool, true, false, not, ◌&&◌, is_some, Some, None, Option, ◌==◌, ◌≢◌, refl}
+use Rattle.std.specs.Prelude.{◌≡◌, ℕ, ◌≤◌, Bool, true, false, not, ◌&&◌, is_some, Some, None, Option, ◌==◌, ◌≢◌, refl}
 use Rattle.std.proofs.Common.{sym, ap, ◌∙◌, inl, inr, arith}
 use Rattle.std.proofs.lemmas.Bool.{and_parts, and_cases, and_from, and_left, both_ways, cond-true, cond-false, eqb-true, not-false, not-true}
 use Rattle.agreement.specs.Laws.{Lawful, Putter, Differ}

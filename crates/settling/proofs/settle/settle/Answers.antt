@@ -1,4 +1,4 @@
-use Rattle.std.proofs.Common.{◌≡◌, ◌-◌, ◌<◌, ◌≢◌, length, None, ◌∙◌, ap₂, arith, length-set, below_more}
+use Rattle.std.proofs.Common.{◌-◌, ◌≢◌, None, ◌∙◌, arith, length-set, below_more}
 use Rattle.std.proofs.lemmas.List.{get_or-set_same, get_or-set_other}
 use Rattle.settling.specs.Rules.{settled}
 use Rattle.settling.proofs.settle.settle.Goals as goal
