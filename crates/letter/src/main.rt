@@ -6,6 +6,7 @@ use jobs::answer::perform;
 use jobs::parse::parse;
 use std::env;
 use std::io::{BufRead, BufReader};
+use std::process::ExitCode;
 
 const HELP: &str = "letter: writes and reads letters, one job a line on standard input
 
@@ -19,12 +20,12 @@ where PLACE counts from 0 and is the first wrong byte, or the length if bytes ar
 Empty lines and lines that begin with # are skipped.
 A line that is no job ends the program with status 1, its number and what was expected.";
 
-fn main(rt: HostRuntime) -> anyhow::Result<()> {
+fn main(rt: HostRuntime) -> anyhow::Result<ExitCode> {
     match run(&rt) {
-        Ok(()) => Ok(()),
+        Ok(()) => Ok(ExitCode::SUCCESS),
         Err(e) => {
             eprintln!(rt; "letter: {e}")?;
-            Err(e)
+            Ok(ExitCode::FAILURE)
         }
     }
 }

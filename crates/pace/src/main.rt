@@ -8,16 +8,17 @@ use load::play;
 use roster::roster::Roster;
 use script::number::number;
 use std::env;
+use std::process::ExitCode;
 
 const USAGE: &str =
     "expected N T ROUNDS: N seats, of which T may be faulty, and how often each puts for both slots";
 
-fn main(rt: HostRuntime) -> anyhow::Result<()> {
+fn main(rt: HostRuntime) -> anyhow::Result<ExitCode> {
     match run(&rt) {
-        Ok(()) => Ok(()),
+        Ok(()) => Ok(ExitCode::SUCCESS),
         Err(e) => {
             eprintln!(rt; "pace: {e}")?;
-            Err(e)
+            Ok(ExitCode::FAILURE)
         }
     }
 }
@@ -39,10 +40,10 @@ fn run(rt: &HostRuntime) -> anyhow::Result<()> {
 
 fn wanted(arg: Option<String>) -> anyhow::Result<u64> {
     let Some(word) = arg else {
-        return Err(USAGE.into());
+        return Err(anyhow!(USAGE));
     };
     match number(word.as_str()) {
         Some(n) => Ok(n),
-        None => Err(USAGE.into()),
+        None => Err(anyhow!(USAGE)),
     }
 }

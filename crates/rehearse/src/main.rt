@@ -6,6 +6,7 @@ mod story;
 use anyhow::anyhow;
 use std::env;
 use std::io::Read;
+use std::process::ExitCode;
 use story::tell;
 
 const HELP: &str = "rehearse: plays a scenario from standard input, one act a line
@@ -23,12 +24,12 @@ The first two lines come first. Each line is printed with its answer: made, gran
 none or a code, yes or no, still. Empty lines and lines that begin with # are skipped.
 A line that is no act ends the program with status 1, its number and what was expected.";
 
-fn main(rt: HostRuntime) -> anyhow::Result<()> {
+fn main(rt: HostRuntime) -> anyhow::Result<ExitCode> {
     match run(&rt) {
-        Ok(()) => Ok(()),
+        Ok(()) => Ok(ExitCode::SUCCESS),
         Err(e) => {
             eprintln!(rt; "rehearse: {e}")?;
-            Err(e)
+            Ok(ExitCode::FAILURE)
         }
     }
 }
