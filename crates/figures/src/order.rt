@@ -1,8 +1,8 @@
 // What is to be moved.
 ghost use Rattle.std.specs.Prelude.{◌≡◌, refl};
+ghost use Rattle.std.proofs.Common.{rules};
+ghost use Rattle.figures.specs.Apart.{orders_apart};
 ghost use Rattle.figures.specs.Figures.{is_tank, order_proper, order_code};
-ghost use Rattle.std.proofs.Common.{arith, rules};
-ghost use Rattle.figures.specs.OrderFigureLemmas.{narrow};
 
 use crate::figure::Figure;
 use roster::denial::Denial;
@@ -43,13 +43,7 @@ impl Figure for Order {
 
     ghost attained = { (record { from = 99; to = 98; litres = 999999 }, refl, refl) };
 
-    ghost apart = { λ f g pf pg e.
-        let a = narrow f pf in
-        let b = narrow g pg in
-        let from : f.from ≡ g.from = omega arith in
-        let to : f.to ≡ g.to = omega arith in
-        let litres : f.litres ≡ g.litres = omega arith in
-        λ i. record { from = from i; to = to i; litres = litres i } };
+    ghost apart = { orders_apart };
 
     fn largest_code() -> u64 {
         Self::LARGEST

@@ -1,7 +1,7 @@
 // What a tank holds.
-ghost use Rattle.figures.specs.Figures.{reading_proper, reading_code};
 ghost use Rattle.std.specs.Prelude.{refl};
 ghost use Rattle.std.proofs.Common.{rules};
+ghost use Rattle.figures.specs.Figures.{reading_proper, reading_code};
 
 use crate::figure::Figure;
 use roster::denial::Denial;
