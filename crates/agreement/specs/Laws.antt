@@ -25,15 +25,15 @@ module _ (v : View) where
   Sound i = sound v.fixed.roster i ≡ true
 
   pub record Lawful : Type 0 where
-    -- sound seats that decided have the same decision
+    -- no two sound seats decide differently
     pub one : (i j : ℕ) (c d : Decision) → Sound i → Sound j → v.decided i ≡ Some c → v.decided j ≡ Some d → c ≡ d
-    -- a sound seat put the code that is decided
+    -- a decision for a code can be traced to a sound seat's put
     pub from_put : (i c : ℕ) → Sound i → v.decided i ≡ Some (Code c) → Putter v.fixed.roster v.puts c
-    -- Nothing is decided only if two sound seats put different codes
+    -- and one for Nothing to two sound seats that were not at one
     pub differ : (i : ℕ) → Sound i → v.decided i ≡ Some Nothing → Differ v.fixed.roster v.puts
     -- a plain agreement never decides Nothing
     pub plain : v.fixed.plain ≡ true → (i : ℕ) → Sound i → v.decided i ≢ Some Nothing
-    -- when it is still and every sound seat has put, every sound seat has decided
+    -- once all sound seats have put, stillness leaves none of them undecided
     pub ends : v.still ≡ true → ((i : ℕ) → Sound i → is_some (v.puts i) ≡ true) → (i : ℕ) → Sound i → is_some (v.decided i) ≡ true
     -- no put exceeds the largest code
     pub within : (i c : ℕ) → v.puts i ≡ Some c → c ≤ v.fixed.largest

@@ -45,8 +45,8 @@ pub record Empty (c : Cell) : Type 0 where
   pub not_readied : c.readied ≡ None
   pub not_held : c.held ≡ None
 
-getD_same : {A : Type 0} (m i : ℕ) (d : A) → get_or (replicate m d) i d ≡ d
-getD_same m i d = elim (cases_lt i m) [
+same_everywhere : {A : Type 0} (m i : ℕ) (d : A) → get_or (replicate m d) i d ≡ d
+same_everywhere m i d = elim (cases_lt i m) [
   | inl h ↦ get_or-replicate m i d d h
   | inr h ↦ get_or_past (replicate m d) i d (rw (length-replicate m d) h)
 ]
@@ -54,8 +54,8 @@ getD_same m i d = elim (cases_lt i m) [
 pub blank_empty : Empty blank
 blank_empty = record {
   no_init = refl;
-  no_echo = λ i. getD_same 10 (i - 1) None;
-  no_ready = λ i. getD_same 10 (i - 1) None;
+  no_echo = λ i. same_everywhere 10 (i - 1) None;
+  no_ready = λ i. same_everywhere 10 (i - 1) None;
   no_put = refl;
   not_echoed = refl;
   not_readied = refl;

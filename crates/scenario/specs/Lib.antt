@@ -1,2 +1,3 @@
+pub mod Expected
 pub mod Lines
 pub mod Plans

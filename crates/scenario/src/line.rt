@@ -1,4 +1,7 @@
 // What a line asks for.
+ghost use Rattle.scenario.specs.Expected.{expected};
+ghost use Rattle.std.specs.Prelude.{Some};
+
 use crate::command::Command;
 use carrier::history::Act;
 use std::fmt;
@@ -33,17 +36,18 @@ pub enum NoLine {
 
 // What was expected in place of the line.
 impl fmt::Display for NoLine {
+    ghost output = { λ e. Some (expected e) };
+
     fn fmt<W: fmt::Write>(&self, f: &mut fmt::Formatter<W>) -> fmt::Result {
         match self {
             NoLine::Unknown => write!(
                 f,
                 "expected `carrier`, `roster`, `put`, `move`, `holds`, `still` or `settle`"
             ),
-            NoLine::Wrong(Command::Carrier) => write!(f, "expected {}", Command::Carrier),
-            NoLine::Wrong(command) => write!(
-                f,
-                "expected {command}, numbers decimal and below 2^64"
-            ),
+            NoLine::Wrong(command) => {
+                let remark = command.remark();
+                write!(f, "expected {command}{remark}")
+            }
             NoLine::Memory => write!(f, "there is no memory to read it"),
         }
     }

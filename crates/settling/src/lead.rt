@@ -67,7 +67,7 @@ fn ahead_of(
     }
 }
 
-// The leading figure together with its count, the lowest seat's at a tie; with no figure settled, Nothing and 0.
+// Which settled figure most seats support, and how many; ties go to the lowest seat. Where no figure is settled, Nothing and 0.
 pub fn tally(size: Size, row: &[Option<Decision>; 10]) -> (Decision, u64)
     ensures value { result ≡ tally size.n (by_seat row.now) }
     ensures leads { Leads size.n (by_seat row.now) result }
