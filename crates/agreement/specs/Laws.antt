@@ -29,7 +29,7 @@ module _ (v : View) where
     pub one : (i j : ℕ) (c d : Decision) → Sound i → Sound j → v.decided i ≡ Some c → v.decided j ≡ Some d → c ≡ d
     -- a decision for a code can be traced to a sound seat's put
     pub from_put : (i c : ℕ) → Sound i → v.decided i ≡ Some (Code c) → Putter v.fixed.roster v.puts c
-    -- and one for Nothing to two sound seats that were not at one
+    -- and one for Nothing to two sound seats' unlike puts
     pub differ : (i : ℕ) → Sound i → v.decided i ≡ Some Nothing → Differ v.fixed.roster v.puts
     -- a plain agreement never decides Nothing
     pub plain : v.fixed.plain ≡ true → (i : ℕ) → Sound i → v.decided i ≢ Some Nothing
