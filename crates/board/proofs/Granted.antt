@@ -1,36 +1,15 @@
 -- A granted call has passed each check. Assumes nothing.
-use Rattle.std.proofs.Common.{◌≡◌, ℕ, Bool, true, false, cond, not, ◌&&◌, leb, is_some, is_ok, Some, None, Option, Result, sym, refl, ap, ◌∙◌, arith}
-use Rattle.std.proofs.lemmas.Bool.{and_parts, and_from, le-leb, not-true}
+use Rattle.std.proofs.Common.{◌≡◌, ℕ, Bool, true, cond, not, ◌&&◌, leb, is_some, None, arith}
+use Rattle.std.proofs.lemmas.Bool.{and_parts, and_from, le-leb}
 use Rattle.carrier.specs.Views.{is_slot}
-use Rattle.roster.specs.Checks.{check, answer}
 use Rattle.roster.specs.Counting.{is_seat}
 use Rattle.roster.specs.Rosters.{sound}
-use Rattle.roster.specs.declared.denial.Denial.{Denial}
 use Rattle.roster.specs.declared.denial.Denial.TheVariants.{OutOfRange, FaultySeat, PutBefore, NothingDue, HandedBefore}
 use Rattle.board.specs.declared.board.Board.{Board}
-use Rattle.board.specs.Laws.{seat_within}
+use Rattle.roster.proofs.Checks.{none_of, passed, wanted_is}
+use Rattle.roster.proofs.Seats.{seat_within}
 use Rattle.board.specs.Places.{is_place, is_held_place, writing, holding}
 use Rattle.board.specs.Rules.{has, write_denial, hand_denial}
-
--- a call that is granted has passed each check
-pub granted : {A : Type 0} (d : Option Denial) (a : A) (r : Result A Denial) → r ≡ answer d a → is_ok r ≡ true → d ≡ None
-granted None a r e k = refl
-granted (Some x) a r e k =
-    let z : true ≡ false = sym k ∙ ap is_ok e in
-    let y : ◌≡◌ {A = ℕ} 0 1 = cc in
-    absurd (omega arith)
-
-passed : (t : Bool) (e : Denial) (rest : Option Denial) → check t e rest ≡ None → (t ≡ true) × (rest ≡ None)
-passed true e rest p = (refl, p)
-passed false e rest p = let z : ◌≡◌ {A = ℕ} 0 1 = cc in absurd (omega arith)
-
-none_of : (x : Option ℕ) → not (is_some x) ≡ true → x ≡ None
-none_of None e = refl
-none_of (Some c) e = let z : ◌≡◌ {A = ℕ} 0 1 = cc in absurd (omega arith)
-
-sound_is : (wanted is : Bool) → cond wanted is (not is) ≡ true → is ≡ wanted
-sound_is true is e = e
-sound_is false is e = not-true is e
 
 -- a seat of the board is one of ten
 seat_wider : (b : Board) (i : ℕ) → is_seat b.roster.size.n i ≡ true → is_seat 10 i ≡ true
@@ -55,7 +34,7 @@ may_write b wanted seat slot e =
     let z = passed (not (is_some (writing b.written seat slot))) PutBefore _ y.1 in
     record {
       there = place_of b seat slot x.0;
-      kind = sound_is wanted (sound b.roster seat) y.0;
+      kind = wanted_is wanted (sound b.roster seat) y.0;
       free = none_of (writing b.written seat slot) z.0;
     }
 

@@ -1,4 +1,3 @@
-mod All
 mod Effects
 mod Granted
 mod Places

@@ -4,7 +4,7 @@ use Rattle.std.proofs.lemmas.List.{get_or-set_same, get_or-set_other}
 use Rattle.std.proofs.lemmas.Bool.{and_parts, and_from, and_left, and_right, cases_eq, eq-eqb, ne_eqb, cond-true, cond-false, cases_Bool}
 use Rattle.carrier.specs.Views.{is_slot}
 use Rattle.roster.specs.Counting.{is_seat}
-use Rattle.board.specs.Laws.{seat_within}
+use Rattle.roster.proofs.Seats.{seat_within}
 use Rattle.board.specs.Places.{is_place, is_held_place, place, held_place, writing, holding}
 
 record Within (o s : ℕ) : Type 0 where

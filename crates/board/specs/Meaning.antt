@@ -1,14 +1,14 @@
 -- What a board means as a carrier. Assumes nothing.
-use Rattle.std.specs.Prelude.{◌≡◌, ℕ, zero, suc, Bool, true, cond, not, ◌&&◌, ◌||◌, is_some, Some, None}
+use Rattle.std.specs.Prelude.{◌≡◌, ℕ, Bool, true, cond, not, ◌&&◌, ◌||◌, is_some, Some, None}
 use Rattle.carrier.specs.Views.{View}
+use Rattle.roster.specs.Counting.{all}
 use Rattle.roster.specs.Rosters.{sound}
 use Rattle.board.specs.declared.board.Board.{Board}
 use Rattle.board.specs.Places.{writing, holding}
 
--- whether each of 1 to n passes
-unfoldable pub all : ℕ → (ℕ → Bool) → Bool
-all zero p = true
-all (suc n) p = p (suc n) && all n p
+-- whether each of 1 to 10 passes
+unfoldable pub all_ten : (ℕ → Bool) → Bool
+all_ten p = all p 10
 
 module _ (b : Board) where
   -- nothing is left to hand over to i from o and s
@@ -19,14 +19,14 @@ module _ (b : Board) where
   all_from i o = handed i o 1 && handed i o 2
 
   abbrev pub all_to : ℕ → Bool
-  all_to i = not (sound b.roster i) || all 10 (all_from i)
+  all_to i = not (sound b.roster i) || all_ten (all_from i)
 
   abbrev pub board_view : View
   board_view = record {
     fixed = record { roster = b.roster; matched = true };
     untouched = not b.touched;
     -- all that was written was handed to every sound seat
-    still = all 10 all_to;
+    still = all_ten all_to;
     -- a faulty seat puts nothing: what it writes is a stray act
     puts = λ i s. cond (sound b.roster i) (writing b.written i s) None;
     held = λ i o s. holding b.held i o s;

@@ -1,6 +1,7 @@
 // What happened on a carrier: each act with its answer.
+ghost use Rattle.std.specs.Prelude.{◌≡◌, Some};
+ghost use Rattle.carrier.specs.Histories.{grants, tells};
 ghost use Rattle.carrier.specs.Words.{said};
-ghost use Rattle.std.specs.Prelude.{Some};
 
 use roster::denial::Denial;
 use roster::moves::Move;
@@ -32,6 +33,28 @@ pub struct Entry {
     pub answer: Answer,
     // whether the carrier was still after the act
     pub still: bool,
+}
+
+impl From<Result<(), Denial>> for Answer {
+    ghost from_gives = { λ r a. a ≡ grants r };
+
+    fn from(done: Result<(), Denial>) -> Answer {
+        match done {
+            Ok(()) => Answer::Granted,
+            Err(denial) => Answer::Denied(denial),
+        }
+    }
+}
+
+impl From<Result<Option<u64>, Denial>> for Answer {
+    ghost from_gives = { λ r a. a ≡ tells r };
+
+    fn from(told: Result<Option<u64>, Denial>) -> Answer {
+        match told {
+            Ok(held) => Answer::Held(held),
+            Err(denial) => Answer::Denied(denial),
+        }
+    }
 }
 
 impl fmt::Display for Answer {

@@ -4,3 +4,4 @@
 pub mod carrier;
 pub mod history;
 pub mod run;
+pub mod slot;

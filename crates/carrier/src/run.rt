@@ -1,6 +1,6 @@
 // Runs a carrier from its first act on.
 ghost use Rattle.std.specs.Prelude.{◌≡◌, false, ◌⊎◌, List, IfOk, IfErr, Option};
-ghost use Rattle.carrier.specs.Histories.{Answers, Does, Law, Planned, Ran, grants, tells};
+ghost use Rattle.carrier.specs.Histories.{Answers, Does, Law, Planned, Ran};
 ghost use Rattle.carrier.specs.Views.{View};
 ghost use Rattle.carrier.specs.declared.run.NoRun.TheVariants.{Memory, Touched};
 ghost use Rattle.carrier.specs.declared.history.Act.{Act};
@@ -8,8 +8,7 @@ ghost use Rattle.carrier.specs.declared.history.Entry.{Entry};
 
 use crate::carrier::Carrier;
 use crate::history::{Act, Answer, Entry};
-use roster::denial::Denial;
-use std::alloc::Global;
+use std::alloc::{AllocFailed, Global};
 
 // Chooses the acts of a run, each in view of the answers so far: a list, or someone at a prompt.
 pub trait Plan {
@@ -28,6 +27,14 @@ pub enum NoRun {
     Touched,
     // there was no memory for the history
     Memory,
+}
+
+impl From<AllocFailed<Entry>> for NoRun {
+    ghost from_gives = { λ _ e. e ≡ Memory };
+
+    fn from(_: AllocFailed<Entry>) -> NoRun {
+        NoRun::Memory
+    }
 }
 
 // Performs what the plan chooses, `most` acts at the most, on a fresh carrier. Whatever the plan chooses and the faulty
@@ -52,9 +59,7 @@ pub fn run<C: Carrier + Drop, P: Plan>(
             return Ok(history);
         };
         let entry = perform(&mut carrier, act);
-        if history.push(entry).is_err() {
-            return Err(NoRun::Memory);
-        }
+        history.push(entry)?;
     }
     Ok(history)
 }
@@ -78,27 +83,9 @@ fn answered<C: Carrier>(carrier: &mut C, act: Act) -> Answer
     ensures keeps { C.Carrier.ok carrier.old → C.Carrier.ok carrier.new }
 {
     match act {
-        Act::Put { seat, slot, code } => granted(carrier.put(seat, slot, code)),
-        Act::Move(by) => granted(carrier.step(by)),
-        Act::Holds { seat, origin, slot } => told(carrier.holds(seat, origin, slot)),
+        Act::Put { seat, slot, code } => carrier.put(seat, slot, code).into(),
+        Act::Move(by) => carrier.step(by).into(),
+        Act::Holds { seat, origin, slot } => carrier.holds(seat, origin, slot).into(),
         Act::Still => Answer::Still(carrier.is_still()),
-    }
-}
-
-fn granted(r: Result<(), Denial>) -> Answer
-    ensures { result ≡ grants r }
-{
-    match r {
-        Ok(()) => Answer::Granted,
-        Err(e) => Answer::Denied(e),
-    }
-}
-
-fn told(r: Result<Option<u64>, Denial>) -> Answer
-    ensures { result ≡ tells r }
-{
-    match r {
-        Ok(held) => Answer::Held(held),
-        Err(e) => Answer::Denied(e),
     }
 }

@@ -2,5 +2,6 @@ pub mod Checks
 pub mod Counting
 pub mod Quorums
 pub mod Rosters
+pub mod Seating
 pub mod Seats
 pub mod Voting

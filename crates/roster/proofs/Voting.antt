@@ -1,8 +1,10 @@
 -- Counting who said what. Assumes nothing.
-use Rattle.std.proofs.Common.{◌≡◌, ℕ, zero, suc, ◌+◌, ◌-◌, ◌≤◌, Bool, true, false, cond, not, eqb, ◌≢◌, ◌⊎◌, List, length, get_or, set, replicate, is_some, Some, None, Option, sym, refl, ap, ◌∙◌, inl, inr, add-one, arith}
+use Rattle.std.proofs.Common.{◌≡◌, ℕ, zero, suc, ◌+◌, ◌-◌, ◌<◌, ◌≤◌, Bool, true, false, cond, not, eqb, ◌≢◌, ◌⊎◌, List, length, take, get_or, set, replicate, is_some, Some, None, Option, sym, refl, ap, ◌∙◌, subst, inl, inr, add-one, arith}
 use Rattle.std.proofs.lemmas.List.{get_or-set_same, get_or-set_other}
 use Rattle.std.proofs.lemmas.Bool.{false≢true, eqb-true, eq-eqb, not-true, not_from_false, ne_eqb, eqb-false, cases_eq}
 use Rattle.roster.specs.Votes.{by_seat, is, differs, passing, said, votes, others}
+use Rattle.std.specs.Prelude.{count_by}
+use Rattle.std.proofs.lemmas.List.Sums.{count_by_more_no, count_by_more_yes}
 use Rattle.roster.proofs.Counting.{count_mono}
 
 -- one more seat of a list
@@ -10,6 +12,17 @@ pub passing_step : {A : Type 0} (test : Option A → Bool) (xs : List (Option A)
 passing_step test xs n b e =
     let same : suc n - 1 ≡ n = omega arith in
     rw add-one (ap (λ i. cond {A = ℕ} (test (get_or xs i None)) 1 0 + passing n (by_seat xs) test) same ∙ ap (λ x. cond {A = ℕ} x 1 0 + passing n (by_seat xs) test) (sym e))
+
+list_step : {A : Type 0} (test : Option A → Bool) (xs : List (Option A)) (n : ℕ) (b : Bool) → n < length xs → test (get_or xs n None) ≡ b → count_by test (take (n + 1) xs) ≡ cond b 1 0 + count_by test (take n xs)
+list_step test xs n true l e = omega (arith, count_by_more_yes test xs n None l e)
+list_step test xs n false l e = omega (arith, count_by_more_no test xs n None l e)
+
+-- whoever stands in the front of a list is counted there
+pub passing_list : {A : Type 0} (test : Option A → Bool) (xs : List (Option A)) (n : ℕ) → n ≤ length xs → count_by test (take n xs) ≡ passing n (by_seat xs) test
+passing_list test xs zero h = refl
+passing_list test xs (suc n) h =
+    let one = list_step test xs n (test (get_or xs n None)) (omega arith) refl in
+    subst (λ k. count_by test (take k xs) ≡ passing k (by_seat xs) test) (add-one n) (omega (arith, one, passing_list test xs n (omega arith), passing_step test xs n _ refl))
 
 -- a new entry of a list, and the others
 module _ {A : Type 0} (xs : List (Option A)) (seat : ℕ) (x : Option A) where
@@ -28,7 +41,7 @@ module _ {A : Type 0} (xs : List (Option A)) (seat : ℕ) (x : Option A) where
         | inr apart ↦ inr (get_or-set_other xs (seat - 1) (i - 1) x None apart)
       ]
 
-none_at : {A : Type 0} (n k : ℕ) → get_or {A = Option A} (replicate n None) k None ≡ None
+pub none_at : {A : Type 0} (n k : ℕ) → get_or {A = Option A} (replicate n None) k None ≡ None
 none_at zero k = refl
 none_at (suc n) zero = refl
 none_at (suc n) (suc k) = none_at n k

@@ -1,8 +1,9 @@
 -- Which rosters there are, and which seats of one are sound. Assumes nothing.
 use Rattle.std.specs.Prelude.{ℕ, ◌^◌, Bool, cond, not, ◌&&◌, Some, None, Option, ◌==◌, nat_le, nat_lt}
 use Rattle.roster.specs.declared.denial.Denial.{Denial}
-use Rattle.roster.specs.declared.denial.Denial.TheVariants.{RosterSize, FaultySet}
+use Rattle.roster.specs.declared.denial.Denial.TheVariants.{RosterSize, FaultySet, OutOfRange, FaultySeat}
 use Rattle.roster.specs.declared.roster.Roster.{Roster}
+use Rattle.roster.specs.Checks.{check}
 use Rattle.roster.specs.Counting.{count, member, is_seat}
 use Rattle.roster.specs.Sizes.{sized}
 
@@ -16,6 +17,10 @@ roster_denial n t set = cond (sized n t) (cond (bounded n t set) None (Some Faul
 
 abbrev pub sound : Roster → ℕ → Bool
 sound r i = is_seat r.size.n i && not (member r.faulty i)
+
+-- the checks of a seat that has to be sound, and then others
+abbrev pub sound_denial : Roster → ℕ → Option Denial → Option Denial
+sound_denial r seat rest = check (is_seat r.size.n seat) OutOfRange (check (sound r seat) FaultySeat rest)
 
 -- rosters of the same size and with the same faulty set
 abbrev pub same_roster : Roster → Roster → Bool

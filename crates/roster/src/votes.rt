@@ -1,15 +1,16 @@
 // Counting who said what, in an array by seat: seat k at index k - 1.
 ghost use Rattle.std.specs.Prelude.{◌≡◌};
-ghost use Rattle.roster.specs.Votes.{by_seat, is, others, said, votes};
+ghost use Rattle.roster.specs.Votes.{by_seat, others, said, votes};
 
 use crate::size::Size;
 
-fn is_code(said: Option<u64>, code: u64) -> bool
-    ensures { result ≡ is code said }
+// What a seat said. A number that is no seat's said nothing.
+pub fn said_by<T: Copy>(by: &[Option<T>; 10], seat: u64) -> Option<T>
+    ensures { result ≡ by_seat by.now seat }
 {
-    match said {
-        Some(other) => other == code,
-        None => false,
+    match by.get(seat.saturating_sub(1) as usize) {
+        Some(said) => *said,
+        None => None,
     }
 }
 
@@ -17,10 +18,10 @@ fn is_code(said: Option<u64>, code: u64) -> bool
 pub fn count_votes(size: Size, by: &[Option<u64>; 10], code: u64) -> u64
     ensures { result ≡ votes size.n (by_seat by.now) code }
 {
-    let n = size.n();
+    let n = size.n() as usize;
     let mut sum = 0;
-    for i in 0..n {
-        if is_code(by[i as usize], code) {
+    for said in &by[..n] {
+        if *said == Some(code) {
             sum += 1;
         }
     }
@@ -31,14 +32,8 @@ pub fn count_votes(size: Size, by: &[Option<u64>; 10], code: u64) -> u64
 pub fn count_said(size: Size, by: &[Option<u64>; 10]) -> u64
     ensures { result ≡ said size.n (by_seat by.now) }
 {
-    let n = size.n();
-    let mut sum = 0;
-    for i in 0..n {
-        if by[i as usize].is_some() {
-            sum += 1;
-        }
-    }
-    sum
+    let n = size.n() as usize;
+    by[..n].iter().filter(|said| said.is_some()).count() as u64
 }
 
 // How many seats said something else than a code.

@@ -10,7 +10,7 @@ ghost use Rattle.roster.specs.declared.denial.Denial.TheVariants.{IllMatched};
 use crate::board::Board;
 use carrier::carrier::Carrier;
 use roster::denial::Denial;
-use roster::moves::Move;
+use roster::moves::{Move, MoveKind};
 use roster::roster::Roster;
 
 impl Carrier for Board {
@@ -44,10 +44,10 @@ impl Carrier for Board {
         ensures stray { is_ok result ≡ true → by.kind ≡ 1 → Written self.old by.from by.slot by.code self.new }
         ensures handed { is_ok result ≡ true → by.kind ≡ 2 → Handed self.old by.from by.to by.slot self.new }
     {
-        match by.kind {
-            1 => self.write(false, by.from, by.slot, by.code),
-            2 => self.hand(by.from, by.to, by.slot),
-            _ => Err(Denial::NoSuchAddress),
+        match MoveKind::try_from(by.kind)? {
+            MoveKind::Stray => self.write(false, by.from, by.slot, by.code),
+            MoveKind::HandOver => self.hand(by.from, by.to, by.slot),
+            MoveKind::Wake => Err(Denial::NoSuchAddress),
         }
     }
 

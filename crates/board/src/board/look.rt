@@ -4,7 +4,8 @@ ghost use Rattle.board.specs.Places.{is_place, writing, holding};
 ghost use Rattle.board.specs.Rules.{has};
 
 use crate::board::Board;
-use crate::board::places::{is_held_place, is_place, is_slot, of_held, of_written};
+use crate::board::places::{is_held_place, is_place, of_held, of_written};
+use carrier::slot::is_slot;
 
 impl Board {
     // Whether a seat may write for a slot.

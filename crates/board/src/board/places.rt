@@ -1,14 +1,8 @@
 // Where a board keeps what.
 ghost use Rattle.std.specs.Prelude.{◌≡◌, ◌<◌, true};
 ghost use Rattle.board.specs.Places.{is_place, is_held_place, place, held_place};
-ghost use Rattle.carrier.specs.Views.{is_slot};
 
-// Whether a number is a slot's.
-pub fn is_slot(slot: u64) -> bool
-    ensures { result ≡ is_slot slot }
-{
-    1 <= slot && slot <= 2
-}
+use carrier::slot::is_slot;
 
 // Whether there is a place for a seat and slot.
 pub fn is_place(seat: u64, slot: u64) -> bool

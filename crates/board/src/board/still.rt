@@ -1,6 +1,6 @@
 // Whether all is handed over.
 ghost use Rattle.std.specs.Prelude.{◌≡◌};
-ghost use Rattle.board.specs.Meaning.{all, handed, all_from, all_to};
+ghost use Rattle.board.specs.Meaning.{all_ten, handed, all_from, all_to};
 
 use crate::board::Board;
 
@@ -21,14 +21,9 @@ impl Board {
 
     // The same for all origins.
     fn has_all(&self, seat: u64) -> bool
-        ensures { result ≡ all 10 (all_from self.now seat) }
+        ensures { result ≡ all_ten (all_from self.now seat) }
     {
-        for origin in 1..=10 {
-            if !self.has_all_from(seat, origin) {
-                return false;
-            }
-        }
-        true
+        (1..=10).all(|origin| self.has_all_from(seat, origin))
     }
 
     // The same, if the seat is sound: nothing is handed to a faulty one.
@@ -40,13 +35,8 @@ impl Board {
 
     // The same for all seats.
     pub(super) fn is_all_handed(&self) -> bool
-        ensures { result ≡ all 10 (all_to self.now) }
+        ensures { result ≡ all_ten (all_to self.now) }
     {
-        for seat in 1..=10 {
-            if !self.is_served(seat) {
-                return false;
-            }
-        }
-        true
+        (1..=10).all(|seat| self.is_served(seat))
     }
 }

@@ -1,7 +1,8 @@
 // Making a roster, and asking it.
 ghost use Rattle.std.specs.Prelude.{◌≡◌, Some, None, MatchResult};
+ghost use Rattle.roster.specs.Checks.{answer};
 ghost use Rattle.roster.specs.Counting.{is_seat};
-ghost use Rattle.roster.specs.Rosters.{bounded, roster_denial, same_roster, sound};
+ghost use Rattle.roster.specs.Rosters.{bounded, roster_denial, same_roster, sound, sound_denial};
 
 use crate::denial::Denial;
 use crate::roster::Roster;
@@ -55,12 +56,23 @@ impl Roster {
         self.has(seat) && (self.faulty >> (seat - 1)) % 2 == 0
     }
 
+    // The checks of a seat that has to be sound: that it is a seat, then that it is sound.
+    pub fn check_sound(&self, seat: u64) -> Result<(), Denial>
+        ensures { result ≡ answer (sound_denial self.now seat None) tt }
+    {
+        if !self.has(seat) {
+            return Err(Denial::OutOfRange);
+        }
+        if !self.is_sound(seat) {
+            return Err(Denial::FaultySeat);
+        }
+        Ok(())
+    }
+
     // Whether two rosters have the same size and the same faulty set.
     pub fn is_same(&self, other: Roster) -> bool
         ensures { result ≡ same_roster self.now other }
     {
-        other.size.n() == self.size.n()
-            && other.size.t() == self.size.t()
-            && other.faulty == self.faulty
+        *self == other
     }
 }

@@ -1,11 +1,10 @@
-use Rattle.std.proofs.Common.{true, false, is_some, arith}
-use Rattle.roster.proofs.Voting.{passing_step}
+use Rattle.std.proofs.Common.{◌≡◌, is_some, take, ◌∙◌, rules}
+use Rattle.std.specs.Prelude.{count_by}
+use Rattle.std.proofs.iter.runs.Made.{chains}
+use Rattle.roster.proofs.Voting.{passing_list}
 use Rattle.roster.proofs.votes.count_said.Goals as goal
-use Rattle.roster.proofs.votes.count_said.Goals.{then-is_some, else-is_some}
 
-pub loop-i-preserved : goal.loop-i-preserved
-loop-i-preserved c =
-    elim c.if-is_some.branch [
-      | then-is_some w ↦ (omega (arith, w.sum-is, passing_step is_some c.args.by.now c.loop-i.i true w.if-is_some.ensures), omega (arith, w.sum-is))
-      | else-is_some w ↦ (omega (arith, w.sum-is, passing_step is_some c.args.by.now c.loop-i.i false w.if-is_some.ensures), omega (arith, w.sum-is))
-    ]
+pub returns : goal.returns
+returns c =
+    let counted : c.count.result ≡ count_by is_some (take c.args.size.n c.args.by.now) = search (rules, chains) in
+    counted ∙ passing_list is_some c.args.by.now c.args.size.n (search rules)

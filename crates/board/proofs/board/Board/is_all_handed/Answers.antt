@@ -1,13 +1,9 @@
-use Rattle.std.proofs.Common.{sym, arith, rules}
-use Rattle.board.proofs.All.{all_none, all_more, all_fails}
+use Rattle.std.proofs.Common.{rules}
+use Rattle.std.proofs.iter.runs.Sources.{ranges}
+use Rattle.board.specs.Meaning.{all_ten, all_to}
+use Rattle.roster.proofs.Seating.{all_of}
 use Rattle.board.proofs.board.Board.is_all_handed.Goals as goal
 
-pub loop-seat-init : goal.loop-seat-init
-loop-seat-init c = all_none _
-
-pub loop-seat-preserved : goal.loop-seat-preserved
-loop-seat-preserved c = all_more _ _ (omega arith) c.loop-seat.invariant (search rules)
-
-pub returns-then-not-is_served : goal.returns-then-not-is_served
-returns-then-not-is_served c =
-    sym (all_fails _ 10 c.loop-seat.seat (omega arith) (omega arith) (sym c.if-not-is_served.ensures))
+pub returns : goal.returns
+unfolding all_ten
+returns c = all_of _ _ _ _ (all_to c.args.self.now) 10 c.all.result c.all.ensures.runs (λ q e. search (rules, ranges)) (search rules)
