@@ -1,17 +1,12 @@
 -- What a writing and a hand-over do to a board's meaning. Assumes nothing.
-use Rattle.std.proofs.Common.{◌≡◌, ℕ, Bool, true, false, is_ok, Some, None, Option, Result, sym, ◌≢◌, ap, ◌∙◌, inl, inr, arith}
-use Rattle.std.proofs.lemmas.Bool.{ne_eqb, cond-false, cases_Bool}
+use Rattle.std.proofs.Common.{◌≡◌, ℕ, Bool, true, false, is_ok, Some, None, Option, Result, sym, ap, ◌∙◌, inl, inr, arith}
+use Rattle.std.proofs.lemmas.Bool.{cases_Bool}
 use Rattle.roster.specs.Checks.{answer}
 use Rattle.roster.specs.declared.denial.Denial.{Denial}
-use Rattle.roster.specs.declared.denial.Denial.TheVariants.{NoSuchAddress}
-use Rattle.roster.specs.declared.moves.Move.{Move}
-use Rattle.roster.specs.declared.moves.MoveKind.{MoveKind}
-use Rattle.roster.specs.declared.moves.MoveKind.TheVariants.{Stray, HandOver}
-use Rattle.roster.specs.Moves.{number_of}
 use Rattle.board.specs.declared.board.Board.{Board}
 use Rattle.board.specs.Meaning.{Kept}
 use Rattle.board.specs.Places.{is_place, writing, holding}
-use Rattle.board.specs.Rules.{write_denial, hand_denial, step_denial, Written, Handed}
+use Rattle.board.specs.Rules.{write_denial, hand_denial, Written, Handed}
 use Rattle.roster.proofs.Checks.{granted}
 use Rattle.board.proofs.Granted.{MayWrite, MayHand, may_write, may_hand}
 use Rattle.board.proofs.Places.{cases_two, cases_three, writing_there, holding_here, holding_there}
@@ -75,8 +70,3 @@ module _ (b d : Board) (from to slot : ℕ) (r : Result Unit Denial) (value : r 
 
   pub hand_keeps : (is_ok r ≡ false → d ≡ b) → Kept b → Kept d
   hand_keeps same = keeps_by b d r same (λ k. handed_kept b d from to slot (after k) (hand_may k))
-
--- a number that names no kind of move
-pub step_other : (b : Board) (by : Move) → ((kind : MoveKind) → by.kind ≢ number_of kind) → step_denial b by ≡ Some NoSuchAddress
-step_other b by none =
-    cond-false _ _ _ (ne_eqb by.kind 1 (none Stray)) ∙ cond-false _ _ _ (ne_eqb by.kind 2 (none HandOver))

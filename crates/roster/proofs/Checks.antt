@@ -1,5 +1,5 @@
 -- A granted call has passed each check, and what a guarded option says. Assumes nothing.
-use Rattle.std.proofs.Common.{◌≡◌, Bool, true, false, cond, not, is_some, is_ok, Some, None, Option, Result, sym, refl, ap, ◌∙◌}
+use Rattle.std.proofs.Common.{◌≡◌, Bool, true, false, cond, not, is_some, is_ok, Some, None, Err, Option, Result, sym, refl, ap, ◌∙◌}
 use Rattle.std.proofs.lemmas.Bool.{both_ways, false≢true, not-true}
 use Rattle.roster.specs.Checks.{check, answer}
 use Rattle.roster.specs.declared.denial.Denial.{Denial}
@@ -8,6 +8,11 @@ module _ {A : Type 0} where
   pub granted : (d : Option Denial) (a : A) (r : Result A Denial) → r ≡ answer d a → is_ok r ≡ true → d ≡ None
   granted None a r e ok = refl
   granted (Some x) a r e ok = absurd (both_ways (is_ok r) (ap is_ok e) ok)
+
+  -- a refusal is the same whatever would be answered without one
+  pub refused : (d : Option Denial) (e : Denial) (a : A) → ◌≡◌ {A = Result Unit Denial} (Err e) (answer d tt) → Err e ≡ answer d a
+  refused None e a h = absurd (false≢true (ap is_ok h))
+  refused (Some x) e a h = let same : e ≡ x = cc in ap Err same
 
   pub none_some : (x : Option A) (a : A) → x ≡ None → x ≡ Some a → ⊥
   none_some x a e f = false≢true (sym (ap is_some e) ∙ ap is_some f)

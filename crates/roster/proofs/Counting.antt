@@ -14,11 +14,6 @@ pub count_most : (p : ℕ → Bool) (n : ℕ) → count p n ≤ n
 count_most p zero = omega arith
 count_most p (suc n) = omega (arith, one_most (p (suc n)), count_most p n)
 
--- one more seat
-pub count_step : (p : ℕ → Bool) (n : ℕ) (b : Bool) → b ≡ p (n + 1) → count p (n + 1) ≡ cond b 1 0 + count p n
-count_step p n b e =
-    rw add-one (ap (λ x. cond {A = ℕ} x 1 0 + count p n) (ap p (sym (add-one n)) ∙ sym e))
-
 one_mono : (a b : Bool) → (a ≡ true → b ≡ true) → cond {A = ℕ} a 1 0 ≤ cond b 1 0
 one_mono true b h = rw (h refl) (omega arith)
 one_mono false true h = omega arith

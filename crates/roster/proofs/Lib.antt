@@ -4,4 +4,5 @@ pub mod Quorums
 pub mod Rosters
 pub mod Seating
 pub mod Seats
+pub mod Unnamed
 pub mod Voting

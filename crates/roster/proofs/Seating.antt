@@ -1,11 +1,12 @@
--- What `all` of std answers over the range `1..=n` of the seats. Assumes nothing.
-use Rattle.std.proofs.Common.{◌≡◌, ℕ, zero, suc, ◌+◌, ◌-◌, ◌<◌, ◌≤◌, Bool, true, false, Option, Some, None, sym, refl, subst, ap, ◌∙◌, inl, inr, arith}
+-- What methods of std that call a closure for each seat answer. Assumes nothing.
+use Rattle.std.proofs.Common.{◌≡◌, ℕ, zero, suc, ◌+◌, ◌-◌, ◌<◌, ◌≤◌, Bool, true, false, List, Option, Some, None, sym, refl, subst, ap, ◌∙◌, inl, inr, arith}
 use denote.Param.Members.{Mut, Called}
 use Rattle.std.proofs.iter.runs.Lists.{same_Some, none-some}
-use Rattle.std.proofs.lemmas.Bool.{cases_Bool, false≢true}
+use Rattle.std.proofs.lemmas.Bool.{cases_Bool, cases_eq, false≢true}
+use Rattle.std.specs.Array.{IsFromFnResultFrom}
 use Rattle.std.specs.Iterator.Runs.{Run, SomeRun, AllItemsGive, AnyItemGives, ItemsCountUp}
 use Rattle.std.specs.Option.{option_map}
-use Rattle.std.specs.Prelude.{IsTrue, MatchBool, IfSome, IsSomeAnd}
+use Rattle.std.specs.Prelude.{IsTrue, MatchBool, IfSome, IsSomeAnd, slice_index_or}
 use Rattle.roster.specs.Counting.{all}
 use Rattle.roster.proofs.Seats.{all_at}
 
@@ -56,3 +57,16 @@ module _ {S F : Type 0} (steps : S → Option ℕ → S → Type 0) (g : Mut F (
       let low : call.0 < n = omega (arith, call.1, items.0) in
       let here = item (h.0.at call.0) (λ v. Called g f (v, tt) false f) (1 + call.0) (if_some (h.0.at call.0) _ call.2) (items.3 call.0 call.1) in
       sym (not_all p n (1 + call.0) (omega arith) (omega (arith, low)) (sym (answers (1 + call.0) false f here).1))
+
+-- what stands at each place of an array that `array::from_fn` of std made, where its closure stays as it is
+module _ {F B : Type 0} (g : Mut F (ℕ × Unit {0}) B) (f : F) (ys : List B) (stays : (k : ℕ) (y : B) (f' : F) → Called g f (k, tt) y f' → f' ≡ f) where
+  pub made_at : (i n : ℕ) → IsFromFnResultFrom g f ys i n → (k : ℕ) (d : B) → i ≤ k → k < i + n → Called g f (k, tt) (slice_index_or ys k d) f
+  made_at i zero each k d lo hi = absurd (omega arith)
+  made_at i (suc n) each k d lo hi =
+      let same = stays i each.1 each.0 each.3 in
+      elim (cases_eq k i) [
+        | inl here ↦
+            let found = subst (λ q. Called g f (i, tt) each.1 q) same each.3 in
+            subst (λ j. Called g f (j, tt) (slice_index_or ys j d) f) (sym here) (subst (λ y. Called g f (i, tt) y f) (sym (each.2.1 d)) found)
+        | inr later ↦ made_at (i + 1) n (subst (λ q. IsFromFnResultFrom g q ys (i + 1) n) same each.4) k d (omega arith) (omega arith)
+      ]

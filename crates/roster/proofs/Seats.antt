@@ -1,6 +1,6 @@
 -- Sound seats of a roster. Assumes nothing.
-use Rattle.std.proofs.Common.{◌≡◌, ℕ, zero, suc, ◌+◌, ◌<◌, ◌≤◌, Bool, true, false, not, ◌&&◌, ◌||◌, eqb, leb, sym, ◌∙◌, subst, ap₂, inl, inr, add-one, arith}
-use Rattle.std.proofs.lemmas.Bool.{false≢true, and_parts, and_from, cases_eq, cases_Bool, eqb-true, le-leb, leb-true}
+use Rattle.std.proofs.Common.{◌≡◌, ℕ, zero, suc, ◌+◌, ◌<◌, ◌≤◌, Bool, true, false, cond, not, refl, ◌&&◌, ◌||◌, eqb, leb, sym, ◌∙◌, subst, ap, ap₂, inl, inr, add-one, arith}
+use Rattle.std.proofs.lemmas.Bool.{false≢true, ne_eqb, and_parts, and_from, cases_eq, cases_Bool, eqb-true, le-leb, leb-true}
 use Rattle.roster.specs.Counting.{all, count, is_seat, member}
 use Rattle.roster.specs.Rosters.{same_roster, sound}
 use Rattle.roster.specs.declared.roster.Roster.{Roster}
@@ -24,6 +24,15 @@ all_not p n i hi h = elim (cases_Bool (all p n)) [
 
 pub all_end : (p : ℕ → Bool) (n i : ℕ) → i ≤ n → n ≤ i → all p i ≡ true → true ≡ all p n
 all_end p n i a b h = let e : i ≡ n = omega arith in subst (λ j. true ≡ all p j) e (sym h)
+
+one_none : (b : Bool) (k : ℕ) (rest : Bool) → rest ≡ eqb k 0 → (not b && rest) ≡ eqb (cond b 1 0 + k) 0
+one_none true k rest e = sym (ne_eqb (1 + k) 0 (λ z. omega arith))
+one_none false k rest e = let same : k ≡ 0 + k = omega arith in e ∙ ap (λ x. eqb x 0) same
+
+-- all are without it exactly where none is counted
+pub none_counted : (p : ℕ → Bool) (n : ℕ) → all (λ i. not (p i)) n ≡ eqb (count p n) 0
+none_counted p zero = refl
+none_counted p (suc n) = one_none (p (suc n)) (count p n) (all (λ i. not (p i)) n) (none_counted p n)
 
 pub implied : (a b : Bool) → (not a || b) ≡ true → a ≡ true → b ≡ true
 implied true b h e = h

@@ -29,11 +29,17 @@ pub fn count_votes(size: Size, by: &[Option<u64>; 10], code: u64) -> u64
 }
 
 // How many seats said anything.
-pub fn count_said(size: Size, by: &[Option<u64>; 10]) -> u64
+pub fn count_said<T>(size: Size, by: &[Option<T>; 10]) -> u64
     ensures { result ≡ said size.n (by_seat by.now) }
 {
     let n = size.n() as usize;
-    by[..n].iter().filter(|said| said.is_some()).count() as u64
+    let mut sum = 0;
+    for said in &by[..n] {
+        if said.is_some() {
+            sum += 1;
+        }
+    }
+    sum
 }
 
 // How many seats said something else than a code.

@@ -98,14 +98,6 @@ module _ (n t : ℕ) (r : Record) (codes flags : ℕ → Option ℕ) (below : Op
   abbrev vote_test : (ℕ → Option Decision) → Bool
   vote_test row = not r.voted && leb (all_but_faulty n t) (said n row)
 
-  pub due_none : r.code ≡ None → None ≡ due n t r codes flags below
-  unfolding due
-  due_none e = rw e
-
-  pub due_flag : (v : ℕ) (f : Bool) → r.code ≡ Some v → true ≡ flag_test → f ≡ leb (one_sound t) (votes n codes v) → Some (Flag f) ≡ due n t r codes flags below
-  unfolding due
-  due_flag v f e test is = rw (e, is) (sym (cond-true _ _ _ (sym test)))
-
   module _ (v : ℕ) (has : r.code ≡ Some v) (left : false ≡ flag_test) (row : ℕ → Option Decision) (same : Same n row (settled n t codes flags)) where
     vote_same : vote_test row ≡ vote_test (settled n t codes flags)
     vote_same = ap (λ k. not r.voted && leb (all_but_faulty n t) k) (passing_same n row _ is_some same)

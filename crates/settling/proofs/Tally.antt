@@ -1,9 +1,9 @@
 -- What the tally and the bit say of the row that they are taken of. Assumes nothing.
-use Rattle.std.proofs.Common.{◌≡◌, ℕ, zero, suc, ◌+◌, ◌-◌, ◌*◌, ◌<◌, ◌≤◌, Bool, true, false, cond, not, ◌&&◌, eqb, ltb, ◌⊎◌, List, get_or, is_some, Some, None, Option, sym, refl, ap, ◌∙◌, subst, inl, inr, ⊎_elim, add-one, arith}
+use Rattle.std.proofs.Common.{◌≡◌, ℕ, zero, suc, ◌+◌, ◌*◌, ◌<◌, ◌≤◌, Bool, true, false, cond, not, ◌&&◌, eqb, ltb, ◌⊎◌, is_some, Some, None, Option, sym, refl, ap, ◌∙◌, subst, inl, inr, ⊎_elim, arith}
 use Rattle.std.proofs.lemmas.Bool.{false≢true, and_parts, and_cases, cases_Bool, cases_eq, cases_lt, eqb-true, eqb-false, eq-eqb, le-leb, leb-true, leb-false, ltb-true, ltb-false, not-true}
 use Rattle.roster.specs.Counting.{but}
 use Rattle.roster.specs.Quorums.{all_but_faulty, sound_rest}
-use Rattle.roster.specs.Votes.{by_seat, passing, said}
+use Rattle.roster.specs.Votes.{passing, said}
 use Rattle.roster.specs.declared.decision.Decision.{Decision}
 use Rattle.roster.specs.declared.decision.Decision.TheVariants.{Nothing, Code}
 use Rattle.roster.proofs.Counting.{count_at, count_but, count_mono, count_some}
@@ -148,12 +148,6 @@ module _ (n : ℕ) (row : ℕ → Option Decision) where
 
   lead_few : (tally n row).1 ≤ figures n row
   lead_few = ⊎_elim (λ (e, z). omega arith) (λ f. omega (arith, f.count, few_support f.code)) tally_leads.first
-
--- one more seat of a list
-pub leading_step : (n : ℕ) (xs : List (Option Decision)) (i : ℕ) → leading n (by_seat xs) (i + 1) ≡ ahead n (by_seat xs) (get_or xs i None) (leading n (by_seat xs) i)
-leading_step n xs i =
-    let same : suc i - 1 ≡ i = omega arith in
-    rw add-one (ap (λ k. ahead n (by_seat xs) (get_or xs k None) (leading n (by_seat xs) i)) same)
 
 pub tally_at : (n : ℕ) (row : ℕ → Option Decision) (i : ℕ) → i ≡ n → leading n row i ≡ tally n row
 unfolding tally

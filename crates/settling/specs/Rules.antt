@@ -4,8 +4,6 @@ use Rattle.roster.specs.Quorums.{one_sound, all_but_faulty, sound_rest}
 use Rattle.roster.specs.Votes.{passing, said, votes, others}
 use Rattle.roster.specs.declared.decision.Decision.{Decision}
 use Rattle.roster.specs.declared.decision.Decision.TheVariants.{Nothing, Code}
-use Rattle.settling.specs.declared.lead.Test.{Test}
-use Rattle.settling.specs.declared.lead.Test.TheVariants.{Settled, Figure, Code as Wanted}
 use Rattle.settling.specs.declared.record.Record.{Record}
 use Rattle.settling.specs.declared.record.Due.{Due}
 use Rattle.settling.specs.declared.record.Due.TheVariants.{Flag, Vote, Decide}
@@ -41,12 +39,6 @@ abbrev pub is_code : ℕ → Option Decision → Bool
 is_code v None = false
 is_code v (Some Nothing) = false
 is_code v (Some (Code w)) = w == v
-
--- the tests of the code
-abbrev pub test_of : Test → Option Decision → Bool
-test_of Settled = is_some
-test_of Figure = is_figure
-test_of (Wanted v) = is_code v
 
 module _ (n : ℕ) (row : ℕ → Option Decision) where
   -- how many origins are settled as v, and as any figure

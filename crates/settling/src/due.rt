@@ -5,7 +5,7 @@ ghost use Rattle.roster.specs.Votes.{by_seat, said, votes};
 ghost use Rattle.settling.specs.Rules.{decides, decides_on, due};
 
 use crate::holdings::Holdings;
-use crate::lead::{Test, bit, count, tally};
+use crate::lead::{bit, tally};
 use crate::record::{Due, Record};
 use crate::settle::settle;
 use roster::decision::Decision;
@@ -28,7 +28,7 @@ fn flag_of(size: Size, codes: &[Option<u64>; 10], code: u64) -> bool
 fn is_vote_due(size: Size, seat: Record, row: &[Option<Decision>; 10]) -> bool
     ensures { result ≡ (not seat.voted && nat_le (all_but_faulty size.n size.t) (said size.n (by_seat row.now))) }
 {
-    !seat.voted && count(size, row, Test::Settled) >= size.all_but_faulty()
+    !seat.voted && count_said(size, row) >= size.all_but_faulty()
 }
 
 // On 0 Nothing is decided, on 1 the leading figure, once it has enough support.
@@ -58,6 +58,7 @@ fn decides(size: Size, row: &[Option<Decision>; 10], below: Option<Decision>) ->
 }
 
 // The act that is due, by the seat's record, what it holds and what it decided below. A seat that has not put has nothing due.
+#[tactic(auto, unfolding(crate::specs::Rules::due, crate::specs::Rules::settled))]
 pub fn due(size: Size, seat: Record, held: &Holdings, below: Option<Decision>) -> Option<Due>
     ensures { result ≡ due size.n size.t seat (by_seat held.now.codes) (by_seat held.now.flags) below }
 {

@@ -1,47 +1,32 @@
 // The tally of what is settled, and the bit that it gives.
 ghost use Rattle.std.specs.Prelude.{◌≡◌};
-ghost use Rattle.roster.specs.Votes.{by_seat, passing};
+ghost use Rattle.roster.specs.Votes.{by_seat};
 ghost use Rattle.settling.specs.Leads.{Leads};
-ghost use Rattle.settling.specs.Rules.{ahead, bit, tally, test_of};
+ghost use Rattle.settling.specs.Rules.{ahead, bit, figures, support, tally};
 
 use roster::decision::Decision;
 use roster::size::Size;
 
-// Which of the origins are counted.
-#[derive(Clone, Copy)]
-pub enum Test {
-    Settled,
-    Figure,
-    Code(u64),
+// How many origins are settled as a code.
+fn support(size: Size, row: &[Option<Decision>; 10], code: u64) -> u64
+    ensures { result ≡ support size.n (by_seat row.now) code }
+{
+    let n = size.n() as usize;
+    row[..n]
+        .iter()
+        .filter(|settled| **settled == Some(Decision::Code(code)))
+        .count() as u64
 }
 
-fn passes(test: Test, settled: Option<Decision>) -> bool
-    ensures { result ≡ test_of test settled }
+// How many origins are settled as any figure.
+fn count_figures(size: Size, row: &[Option<Decision>; 10]) -> u64
+    ensures { result ≡ figures size.n (by_seat row.now) }
 {
-    let Some(decision) = settled else {
-        return false;
-    };
-    let Decision::Code(code) = decision else {
-        return matches!(test, Test::Settled);
-    };
-    match test {
-        Test::Code(wanted) => code == wanted,
-        Test::Settled | Test::Figure => true,
-    }
-}
-
-// How many origins pass a test.
-pub fn count(size: Size, row: &[Option<Decision>; 10], test: Test) -> u64
-    ensures { result ≡ passing size.n (by_seat row.now) (test_of test) }
-{
-    let n = size.n();
-    let mut sum = 0;
-    for i in 0..n {
-        if passes(test, row[i as usize]) {
-            sum += 1;
-        }
-    }
-    sum
+    let n = size.n() as usize;
+    row[..n]
+        .iter()
+        .filter(|settled| matches!(settled, Some(Decision::Code(_))))
+        .count() as u64
 }
 
 // A figure leads once more origins are settled as it than as any at a lower seat.
@@ -59,7 +44,7 @@ fn ahead_of(
     let Decision::Code(code) = decision else {
         return lead;
     };
-    let support = count(size, row, Test::Code(code));
+    let support = support(size, row, code);
     if lead.1 < support {
         (Decision::Code(code), support)
     } else {
@@ -72,10 +57,10 @@ pub fn tally(size: Size, row: &[Option<Decision>; 10]) -> (Decision, u64)
     ensures value { result ≡ tally size.n (by_seat row.now) }
     ensures leads { Leads size.n (by_seat row.now) result }
 {
-    let n = size.n();
+    let n = size.n() as usize;
     let mut lead = (Decision::Nothing, 0);
-    for i in 0..n {
-        lead = ahead_of(size, row, row[i as usize], lead);
+    for settled in &row[..n] {
+        lead = ahead_of(size, row, *settled, lead);
     }
     lead
 }
@@ -85,5 +70,5 @@ pub fn bit(size: Size, row: &[Option<Decision>; 10]) -> bool
     ensures { result ≡ bit size.n size.t (by_seat row.now) }
 {
     let lead = tally(size, row);
-    lead.1 >= size.sound_rest() && lead.1 == count(size, row, Test::Figure)
+    lead.1 >= size.sound_rest() && lead.1 == count_figures(size, row)
 }

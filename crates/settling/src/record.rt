@@ -1,7 +1,7 @@
 // What a seat has done so far, and what it may do next.
 use roster::decision::Decision;
 
-#[derive(Clone, Copy)]
+#[derive(Clone, Copy, Default)]
 pub struct Record {
     // what it put
     pub code: Option<u64>,

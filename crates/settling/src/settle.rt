@@ -7,6 +7,7 @@ use crate::holdings::Holdings;
 use roster::decision::Decision;
 use roster::size::Size;
 use roster::votes::{count_others, count_votes};
+use std::array;
 
 // A flag says that its seat found enough others with its own code, or enough without it. Here that is counted again.
 fn settled_by(size: Size, codes: &[Option<u64>; 10], code: u64, flag: u64) -> Option<Decision>
@@ -42,10 +43,5 @@ fn settled_from(
 pub fn settle(size: Size, held: &Holdings) -> [Option<Decision>; 10]
     ensures { (j : ℕ) → 1 ≤ j → j ≤ size.n → by_seat result j ≡ settled size.n size.t (by_seat held.now.codes) (by_seat held.now.flags) j }
 {
-    let n = size.n() as usize;
-    let mut row = [None; 10];
-    for i in 0..n {
-        row[i] = settled_from(size, &held.codes, held.codes[i], held.flags[i]);
-    }
-    row
+    array::from_fn(|i| settled_from(size, &held.codes, held.codes[i], held.flags[i]))
 }

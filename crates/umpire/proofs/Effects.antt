@@ -1,31 +1,17 @@
 -- What a put and a giving do to an umpire's meaning. Assumes nothing.
-use Rattle.std.proofs.Common.{◌≡◌, ℕ, ◌-◌, ◌≤◌, Bool, true, false, cond, not, List, set, Some, None, Option, sym, refl, ap, ◌∙◌, inl, inr, arith}
-use mathlib.Core.Path.{subst⁻¹, transport⁻¹}
-use Rattle.std.proofs.lemmas.Bool.{and_from, and_parts, and_right, cases_Bool, cases_eq, cond-true, cond-false, eq-eqb, ne_eqb}
-use Rattle.agreement.specs.Views.{View, Put, Moved}
+use Rattle.std.proofs.Common.{◌≡◌, ℕ, ◌-◌, ◌≤◌, Bool, true, false, List, set, is_ok, Some, Option, Result, sym, ap, ◌∙◌, inl, inr, arith}
+use mathlib.Core.Path.{transport⁻¹}
+use Rattle.roster.specs.Checks.{answer}
+use Rattle.roster.specs.declared.denial.Denial.{Denial}
 use Rattle.roster.specs.declared.decision.Decision.{Decision}
-use Rattle.roster.specs.declared.roster.Roster.{Roster}
-use Rattle.roster.specs.Rosters.{sound}
 use Rattle.roster.specs.Votes.{by_seat}
-use Rattle.roster.proofs.Checks.{guarded_some, none_some}
-use Rattle.roster.proofs.Seats.{sound_within}
 use Rattle.roster.proofs.Voting.{new_or_old, seat_new, seat_old}
-use Rattle.umpire.specs.Calls.{has_choice, Noted, Given}
+use Rattle.umpire.specs.Calls.{note_denial, give_denial, Noted, Given}
 use Rattle.umpire.specs.declared.umpire.Umpire.{Umpire}
 use Rattle.umpire.specs.Kept.{Holds, Kept}
-use Rattle.umpire.specs.Meaning.{seated, meaning, umpire_view}
 use Rattle.umpire.specs.Rules.{ruled}
-use Rattle.umpire.proofs.Granted.{MayNote, MayGive}
+use Rattle.umpire.proofs.Granted.{MayNote, MayGive, keeps_by, may_note, may_give}
 use Rattle.umpire.proofs.Standing.{ruled_stands}
-
--- a new entry changes no other seat's
-module _ {A : Type 0} (r : Roster) (largest : ℕ) (xs : List (Option A)) (seat : ℕ) (x : Option A) where
-  seen_old : (i : ℕ) → 1 ≤ seat → (i ≡ seat → ⊥) → cond (seated r largest i) (by_seat (set xs (seat - 1) x) i) None ≡ cond (seated r largest i) (by_seat xs i) None
-  seen_old i lo other =
-      elim (cases_Bool (seated r largest i)) [
-        | inl here ↦ ap (λ y. cond (seated r largest i) y None) (seat_old xs seat x i lo (sound_within r i (and_parts (has_choice largest) (sound r i) here).1).0 other)
-        | inr out ↦ cond-false _ _ _ out ∙ sym (cond-false _ _ _ out)
-      ]
 
 module _ (u w : Umpire) (seat code : ℕ) (to : Noted u seat code w) where
   abbrev next : List (Option ℕ)
@@ -34,35 +20,9 @@ module _ (u w : Umpire) (seat code : ℕ) (to : Noted u seat code w) where
   abbrev ruling : Option Decision
   ruling = ruled u.roster.size.n u.roster.size.t (by_seat next) code u.ruling
 
-  seen : (P : View → Type 0) → P (meaning u.roster u.largest next ruling u.given true) → P (umpire_view w)
-  seen P = subst⁻¹ P (λ i. meaning (to.roster i) (to.largest i) (to.puts i) (to.ruling i) (to.given i) (to.touched i))
-
   held : Holds u.roster u.largest next ruling u.given → Kept w
   held h =
       transport⁻¹ (λ i. Holds (to.roster i) (to.largest i) (to.puts i) (to.ruling i) (to.given i)) h
-
-  pub noted_put : has_choice u.largest ≡ true → MayNote u true seat code → Put (umpire_view u) seat code (umpire_view w)
-  noted_put m may = seen (Put (umpire_view u) seat code) (record {
-    fixed = refl;
-    touched = ap not (and_from (has_choice u.largest) true m refl);
-    puts = λ i. elim (cases_eq i seat) [
-      | inl same ↦ rw same (cond-true (seated u.roster u.largest seat) _ _ (and_from _ _ m may.kind) ∙ seat_new u.puts seat (Some code) may.low (omega (arith, u.room, may.high)) ∙ sym (cond-true _ _ _ (eq-eqb seat seat refl)))
-      | inr other ↦ seen_old u.roster u.largest u.puts seat (Some code) i may.low other ∙ sym (cond-false _ _ _ (ne_eqb i seat other))
-    ];
-    decided = λ i. refl;
-  })
-
-  -- a faulty seat has no put, before and after
-  pub noted_moved : has_choice u.largest ≡ true → MayNote u false seat code → Moved (umpire_view u) (umpire_view w)
-  noted_moved m may = seen (Moved (umpire_view u)) (record {
-    fixed = refl;
-    touched = ap not (and_from (has_choice u.largest) true m refl);
-    puts = λ i. elim (cases_eq i seat) [
-      | inl same ↦ rw same (let out = and_right (has_choice u.largest) (sound u.roster seat) may.kind in cond-false _ _ _ out ∙ sym (cond-false _ _ _ out))
-      | inr other ↦ seen_old u.roster u.largest u.puts seat (Some code) i may.low other
-    ];
-    decided = λ i d e. e;
-  })
 
   new_within : (wanted : Bool) → MayNote u wanted seat code → ((i v : ℕ) → by_seat u.puts i ≡ Some v → v ≤ u.largest) → (i v : ℕ) → by_seat next i ≡ Some v → v ≤ u.largest
   new_within wanted may within i v e =
@@ -82,18 +42,6 @@ module _ (u w : Umpire) (seat code : ℕ) (to : Noted u seat code w) where
       ))
 
 module _ (u w : Umpire) (to : ℕ) (by : Given u to w) where
-  pub given_moved : has_choice u.largest ≡ true → MayGive u to → Moved (umpire_view u) (umpire_view w)
-  given_moved m may =
-      subst⁻¹ (Moved (umpire_view u)) (λ i. meaning (by.roster i) (by.largest i) (by.puts i) (by.ruling i) (by.given i) (by.touched i)) (record {
-        fixed = refl;
-        touched = ap not (and_from (has_choice u.largest) true m refl);
-        puts = λ i. refl;
-        decided = λ i d e. elim (cases_eq i to) [
-          | inl same ↦ absurd (none_some (by_seat u.given to) d may.free (guarded_some (seated u.roster u.largest to) _ d (rw same at e)).1)
-          | inr other ↦ seen_old u.roster u.largest u.given to u.ruling i may.low other ∙ e
-        ];
-      })
-
   pub given_kept : MayGive u to → Kept u → Kept w
   given_kept may kept =
       transport⁻¹ (λ i. Holds (by.roster i) (by.largest i) (by.puts i) (by.ruling i) (by.given i)) (λ m. (
@@ -103,3 +51,12 @@ module _ (u w : Umpire) (to : ℕ) (by : Given u to w) where
           | inr old ↦ (kept m).1 i d (sym old ∙ e)
         ],
       ))
+
+-- a call of the code keeps all, from what it promises: a denied one changes nothing
+pub note_keeps : (u w : Umpire) (wanted : Bool) (seat code : ℕ) (r : Result Unit Denial) → r ≡ answer (note_denial u wanted seat code) tt → (is_ok r ≡ false → w ≡ u) → (is_ok r ≡ true → Noted u seat code w) → Kept u → Kept w
+note_keeps u w wanted seat code r value same after =
+    keeps_by u w r same (λ k. noted_kept u w seat code (after k) wanted (may_note u wanted seat code r value k))
+
+pub give_keeps : (u w : Umpire) (to : ℕ) (r : Result Unit Denial) → r ≡ answer (give_denial u to) tt → (is_ok r ≡ false → w ≡ u) → (is_ok r ≡ true → Given u to w) → Kept u → Kept w
+give_keeps u w to r value same after =
+    keeps_by u w r same (λ k. given_kept u w to (after k) (may_give u to r value k))

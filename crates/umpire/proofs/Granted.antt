@@ -1,20 +1,17 @@
 -- What the answer of a call says. Assumes nothing.
-use Rattle.std.proofs.Common.{◌≡◌, ℕ, ◌≤◌, Bool, true, false, cond, not, ◌&&◌, leb, is_some, is_ok, None, Option, Result, sym, refl, ap, ◌∙◌, inl, inr, arith}
-use Rattle.std.proofs.lemmas.Bool.{cases_Bool, cond-true, cond-false, eq-eqb, leb-true, ne_eqb}
-use Rattle.agreement.specs.Views.{put_denial}
-use Rattle.roster.specs.Checks.{answer, check}
+use Rattle.std.proofs.Common.{◌≡◌, ℕ, ◌≤◌, Bool, true, false, cond, not, leb, is_some, is_ok, None, Result, inl, inr, arith}
+use Rattle.std.proofs.lemmas.Bool.{cases_Bool, leb-true}
+use Rattle.roster.specs.Checks.{answer}
 use Rattle.roster.specs.Counting.{is_seat}
 use Rattle.roster.specs.declared.denial.Denial.{Denial}
 use Rattle.roster.specs.declared.denial.Denial.TheVariants.{OutOfRange, FaultySeat, CodeTooLarge, PutBefore, NothingDue, HandedBefore}
-use Rattle.roster.specs.declared.moves.Move.{Move}
 use Rattle.roster.specs.Rosters.{sound}
 use Rattle.roster.specs.Votes.{by_seat}
 use Rattle.roster.proofs.Checks.{granted, none_of, passed, wanted_is}
 use Rattle.roster.proofs.Seats.{seat_within}
-use Rattle.umpire.specs.Calls.{has_choice, note_denial, give_denial, step_denial}
+use Rattle.umpire.specs.Calls.{note_denial, give_denial}
 use Rattle.umpire.specs.declared.umpire.Umpire.{Umpire}
 use Rattle.umpire.specs.Kept.{Kept}
-use Rattle.umpire.specs.Meaning.{umpire_view}
 
 pub record MayNote (u : Umpire) (wanted : Bool) (seat code : ℕ) : Type 0 where
   pub low : 1 ≤ seat
@@ -60,23 +57,3 @@ may_give u to r value ok =
 pub keeps_by : (u w : Umpire) (r : Result Unit Denial) → (is_ok r ≡ false → w ≡ u) → (is_ok r ≡ true → Kept u → Kept w) → Kept u → Kept w
 keeps_by u w r same keeps kept =
     elim (cases_Bool (is_ok r)) [ inl ok ↦ keeps ok kept | inr denied ↦ rw (same denied) kept ]
-
--- for a sound seat of a matched umpire its put is what it told
-put_checks : (m s fits : Bool) (x : Option ℕ) → m ≡ true → check s FaultySeat (check fits CodeTooLarge (check (not (is_some x)) PutBefore None)) ≡ check s FaultySeat (check fits CodeTooLarge (check (not (is_some (cond (m && s) x None))) PutBefore None))
-put_checks m true fits x e = rw e refl
-put_checks m false fits x e = refl
-
-module _ (u : Umpire) (m : has_choice u.largest ≡ true) where
-  pub put_same : (seat code : ℕ) → note_denial u true seat code ≡ put_denial (umpire_view u) seat code
-  put_same seat code =
-      ap (check (is_seat u.roster.size.n seat) OutOfRange) (put_checks (has_choice u.largest) (sound u.roster seat) (leb code u.largest) (by_seat u.puts seat) m)
-      ∙ sym (cond-true _ _ _ m)
-
-  module _ (by : Move) (here : by.address ≡ 0) where
-    pub step_one : by.kind ≡ 1 → note_denial u false by.from by.code ≡ step_denial u by
-    step_one e =
-        sym (cond-true _ _ _ m ∙ cond-true _ _ _ (eq-eqb by.address 0 here) ∙ cond-true _ _ _ (eq-eqb by.kind 1 e))
-
-    pub step_two : by.kind ≡ 2 → give_denial u by.to ≡ step_denial u by
-    step_two e =
-        sym (cond-true _ _ _ m ∙ cond-true _ _ _ (eq-eqb by.address 0 here) ∙ cond-false _ _ _ (ne_eqb by.kind 1 (λ one. omega arith)) ∙ cond-true _ _ _ (eq-eqb by.kind 2 e))

@@ -25,33 +25,24 @@ impl<C: Carrier, B: Agreement> Reduction<C, B> {
     }
 
     // The checks of a seat, in their order.
-    fn seat_denied(&self, seat: u64) -> Option<Denial>
-        ensures { result ≡ seat_denial (meaning (layer_of C.Carrier B.Agreement self.now)).fixed seat None }
+    fn check_seat(&self, seat: u64) -> Result<(), Denial>
+        ensures { result ≡ answer (seat_denial (meaning (layer_of C.Carrier B.Agreement self.now)).fixed seat None) tt }
     {
         if !self.is_whole() {
-            return Some(Denial::IllMatched);
+            return Err(Denial::IllMatched);
         }
-        let roster = self.carrier.roster();
-        if !roster.has(seat) {
-            return Some(Denial::OutOfRange);
-        }
-        if !roster.is_sound(seat) {
-            return Some(Denial::FaultySeat);
-        }
-        None
+        self.carrier.roster().check_sound(seat)
     }
 
     // The checks of a put that the carrier does not make.
-    fn code_denied(&self, seat: u64, code: u64) -> Option<Denial>
-        ensures { result ≡ seat_denial (meaning (layer_of C.Carrier B.Agreement self.now)).fixed seat (check (nat_le code self.now.largest) CodeTooLarge None) }
+    fn check_code(&self, seat: u64, code: u64) -> Result<(), Denial>
+        ensures { result ≡ answer (seat_denial (meaning (layer_of C.Carrier B.Agreement self.now)).fixed seat (check (nat_le code self.now.largest) CodeTooLarge None)) tt }
     {
-        if let Some(denial) = self.seat_denied(seat) {
-            return Some(denial);
-        }
+        self.check_seat(seat)?;
         if code > self.largest {
-            return Some(Denial::CodeTooLarge);
+            return Err(Denial::CodeTooLarge);
         }
-        None
+        Ok(())
     }
 }
 
@@ -74,9 +65,7 @@ impl<C: Carrier, B: Agreement> Agreement for Reduction<C, B> {
         ensures keeps { good.Ok C.Carrier B.Agreement self.old → good.Ok C.Carrier B.Agreement self.new }
         ensures exact { is_ok result ≡ true → PutAbove C.Carrier B.Agreement self.old seat 1 code (with_code (record_of (layer_of C.Carrier B.Agreement self.old) seat) code) self.new }
     {
-        if let Some(denial) = self.code_denied(seat, code) {
-            return Err(denial);
-        }
+        self.check_code(seat, code)?;
         let mut to = self.table.seat(seat);
         to.code = Some(code);
         self.put_above(seat, 1, code, to)
@@ -95,9 +84,7 @@ impl<C: Carrier, B: Agreement> Agreement for Reduction<C, B> {
     }
 
     fn decision(&self, seat: u64) -> Result<Option<Decision>, Denial> {
-        if let Some(denial) = self.seat_denied(seat) {
-            return Err(denial);
-        }
+        self.check_seat(seat)?;
         Ok(self.table.seat(seat).decided)
     }
 

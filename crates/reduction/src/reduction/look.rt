@@ -12,6 +12,7 @@ use roster::size::Size;
 use settling::due::due;
 use settling::holdings::Holdings;
 use settling::record::Due;
+use std::array;
 
 impl<C: Carrier, B: Agreement> Reduction<C, B> {
     pub(super) fn size(&self) -> Size
@@ -36,32 +37,21 @@ impl<C: Carrier, B: Agreement> Reduction<C, B> {
     fn held(&self, seat: u64, origin: u64, slot: u64) -> Option<u64>
         ensures { result ≡ held_row (layer_of C.Carrier B.Agreement self.now) seat slot origin }
     {
-        match self.carrier.holds(seat, origin, slot) {
-            Ok(held) => held,
-            Err(_) => None,
-        }
+        self.carrier.holds(seat, origin, slot).unwrap_or(None)
     }
 
     // What a seat decided below.
     fn decided(&self, seat: u64) -> Option<Decision>
         ensures { result ≡ decided_below (layer_of C.Carrier B.Agreement self.now) seat }
     {
-        match self.below.decision(seat) {
-            Ok(decided) => decided,
-            Err(_) => None,
-        }
+        self.below.decision(seat).unwrap_or(None)
     }
 
     // What a seat holds from all origins for a slot.
     fn row(&self, seat: u64, slot: u64) -> [Option<u64>; 10]
         ensures { (j : ℕ) → 1 ≤ j → j ≤ size_n (layer_of C.Carrier B.Agreement self.now) → by_seat result j ≡ held_row (layer_of C.Carrier B.Agreement self.now) seat slot j }
     {
-        let n = self.size().n();
-        let mut row = [None; 10];
-        for i in 0..n {
-            row[i as usize] = self.held(seat, i + 1, slot);
-        }
-        row
+        array::from_fn(|i| self.held(seat, i as u64 + 1, slot))
     }
 
     // The act that is due for a seat.
@@ -91,12 +81,6 @@ impl<C: Carrier, B: Agreement> Reduction<C, B> {
     pub(super) fn is_idle(&self) -> bool
         ensures { result ≡ idle (layer_of C.Carrier B.Agreement self.now) }
     {
-        let n = self.size().n();
-        for i in 0..n {
-            if !self.is_idle_seat(i + 1) {
-                return false;
-            }
-        }
-        true
+        (1..=self.size().n()).all(|seat| self.is_idle_seat(seat))
     }
 }

@@ -3,25 +3,15 @@ ghost use Rattle.std.specs.Prelude.{◌≡◌, ◌≤◌, true, false, is_ok, So
 ghost use Rattle.reduction.specs.Parts.{Does, below_by, layer_of};
 ghost use Rattle.roster.specs.Checks.{answer};
 ghost use Rattle.settling.specs.declared.record.Due.{Due};
-ghost use Rattle.settling.specs.Layers.{as_code, due_at, matched};
+ghost use Rattle.settling.specs.Layers.{due_at, matched};
 ghost use Rattle.settling.specs.Wakes.{act_denial, wake_denial};
 
 use crate::reduction::Reduction;
 use agreement::agreement::Agreement;
 use carrier::carrier::Carrier;
 use roster::denial::Denial;
-use roster::moves::Move;
+use roster::moves::{Move, MoveKind};
 use settling::record::Due;
-
-// The kind of a move that wakes a seat.
-const WAKE: u64 = 3;
-
-// A flag or a bit as it is put.
-fn as_code(bit: bool) -> u64
-    ensures { result ≡ as_code bit }
-{
-    if bit { 1 } else { 0 }
-}
 
 // The same move, for the agreement below.
 pub(super) fn below_by(by: Move) -> Move
@@ -45,11 +35,11 @@ impl<C: Carrier, B: Agreement> Reduction<C, B> {
         match due {
             Due::Flag(flag) => {
                 to.flagged = true;
-                self.put_above(seat, 2, as_code(flag), to)
+                self.put_above(seat, 2, u64::from(flag), to)
             }
             Due::Vote(bit) => {
                 to.voted = true;
-                self.put_below(seat, as_code(bit), to)
+                self.put_below(seat, u64::from(bit), to)
             }
             Due::Decide(decision) => {
                 to.decided = Some(decision);
@@ -67,16 +57,10 @@ impl<C: Carrier, B: Agreement> Reduction<C, B> {
         ensures above { C.Carrier.ok self.old.carrier → C.Carrier.ok self.new.carrier }
         ensures below { B.Agreement.ok self.old.below → B.Agreement.ok self.new.below }
     {
-        if by.kind != WAKE {
+        if by.kind != u64::from(MoveKind::Wake) {
             return Err(Denial::NoSuchAddress);
         }
-        let roster = self.carrier.roster();
-        if !roster.has(by.to) {
-            return Err(Denial::OutOfRange);
-        }
-        if !roster.is_sound(by.to) {
-            return Err(Denial::FaultySeat);
-        }
+        self.carrier.roster().check_sound(by.to)?;
         let Some(due) = self.due(by.to) else {
             return Err(Denial::NothingDue);
         };

@@ -12,7 +12,7 @@ impl Table {
         ensures touched { result.touched ≡ false }
     {
         Table {
-            seats: [BLANK; 10],
+            seats: [Record::default(); 10],
             touched: false,
         }
     }
@@ -21,12 +21,8 @@ impl Table {
     pub fn seat(&self, seat: u64) -> Record
         ensures { result ≡ slice_index_or self.now.seats (seat - 1) blank }
     {
-        let i = seat.saturating_sub(1);
-        if i < 10 {
-            self.seats[i as usize]
-        } else {
-            BLANK
-        }
+        let place = seat.saturating_sub(1) as usize;
+        self.seats.get(place).copied().unwrap_or_default()
     }
 
     // Whether any record was changed.
@@ -41,17 +37,10 @@ impl Table {
         ensures seats { self.new.seats ≡ slice_set self.old.seats (seat - 1) to }
         ensures touched { self.new.touched ≡ true }
     {
-        let i = seat.saturating_sub(1);
+        let place = seat.saturating_sub(1) as usize;
         self.touched = true;
-        if i < 10 {
-            self.seats[i as usize] = to;
+        if place < 10 {
+            self.seats[place] = to;
         }
     }
 }
-
-const BLANK: Record = Record {
-    code: None,
-    flagged: false,
-    voted: false,
-    decided: None,
-};

@@ -11,7 +11,7 @@ use crate::umpire::Umpire;
 use agreement::agreement::Agreement;
 use roster::decision::Decision;
 use roster::denial::Denial;
-use roster::moves::Move;
+use roster::moves::{Move, MoveKind};
 use roster::roster::Roster;
 
 impl Agreement for Umpire {
@@ -45,10 +45,10 @@ impl Agreement for Umpire {
         if by.address != 0 {
             return Err(Denial::NoSuchAddress);
         }
-        match by.kind {
-            1 => self.note(false, by.from, by.code),
-            2 => self.give(by.to),
-            _ => Err(Denial::NoSuchAddress),
+        match MoveKind::try_from(by.kind)? {
+            MoveKind::Stray => self.note(false, by.from, by.code),
+            MoveKind::HandOver => self.give(by.to),
+            MoveKind::Wake => Err(Denial::NoSuchAddress),
         }
     }
 
@@ -56,17 +56,12 @@ impl Agreement for Umpire {
         if !self.has_choice() {
             return Err(Denial::IllMatched);
         }
-        if !self.has(seat) {
-            return Err(Denial::OutOfRange);
-        }
-        if !self.roster.is_sound(seat) {
-            return Err(Denial::FaultySeat);
-        }
+        self.roster.check_sound(seat)?;
         Ok(self.given_to(seat))
     }
 
     fn is_still(&self) -> bool {
-        self.has_choice() && self.count_owed() == 0
+        self.has_choice() && self.is_all_given()
     }
 
     fn roster(&self) -> Roster {

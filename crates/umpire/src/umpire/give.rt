@@ -14,12 +14,7 @@ impl Umpire {
         ensures same { is_ok result ≡ false → self.new ≡ self.old }
         ensures after { is_ok result ≡ true → Given self.old to self.new }
     {
-        if !self.has(to) {
-            return Err(Denial::OutOfRange);
-        }
-        if !self.roster.is_sound(to) {
-            return Err(Denial::FaultySeat);
-        }
+        self.roster.check_sound(to)?;
         if self.ruling.is_none() {
             return Err(Denial::NothingDue);
         }

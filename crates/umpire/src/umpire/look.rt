@@ -6,23 +6,13 @@ ghost use Rattle.umpire.specs.Calls.{has_choice};
 
 use crate::umpire::Umpire;
 use roster::decision::Decision;
+use roster::votes::said_by;
 
 // Where a seat's entry stands.
 pub(super) fn place_of(seat: u64) -> usize
     ensures { result ≡ seat - 1 }
 {
     seat.saturating_sub(1) as usize
-}
-
-// A seat's entry, if it has one.
-fn entry_of<T: Copy>(entries: &[Option<T>], seat: u64) -> Option<T>
-    ensures { result ≡ by_seat entries.now seat }
-{
-    let place = place_of(seat);
-    if place >= entries.len() {
-        return None;
-    }
-    entries[place]
 }
 
 impl Umpire {
@@ -45,13 +35,13 @@ impl Umpire {
     pub(super) fn put_of(&self, seat: u64) -> Option<u64>
         ensures { result ≡ by_seat self.now.puts seat }
     {
-        entry_of(&self.puts, seat)
+        said_by(&self.puts, seat)
     }
 
     // What a seat was given.
     pub(super) fn given_to(&self, seat: u64) -> Option<Decision>
         ensures { result ≡ by_seat self.now.given seat }
     {
-        entry_of(&self.given, seat)
+        said_by(&self.given, seat)
     }
 }

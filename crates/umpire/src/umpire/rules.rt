@@ -29,8 +29,5 @@ pub(super) fn ruled(
 ) -> Option<Decision>
     ensures { result ≡ ruled size.n size.t (by_seat puts.now) code before }
 {
-    match before {
-        Some(ruling) => Some(ruling),
-        None => rules_on(size, puts, code),
-    }
+    before.or_else(|| rules_on(size, puts, code))
 }

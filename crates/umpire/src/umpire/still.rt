@@ -1,5 +1,5 @@
 // Who is still to be given the ruling.
-ghost use Rattle.std.specs.Prelude.{◌≡◌};
+ghost use Rattle.std.specs.Prelude.{◌≡◌, ◌==◌};
 ghost use Rattle.roster.specs.Counting.{count};
 ghost use Rattle.umpire.specs.Meaning.{owed};
 
@@ -13,17 +13,10 @@ impl Umpire {
         self.ruling.is_some() && self.roster.is_sound(seat) && self.given_to(seat).is_none()
     }
 
-    // How many such seats there are.
-    pub(super) fn count_owed(&self) -> u64
-        ensures { result ≡ count (owed self.now.roster self.now.ruling self.now.given) self.now.roster.size.n }
+    // Whether there is no such seat.
+    pub(super) fn is_all_given(&self) -> bool
+        ensures { result ≡ (count (owed self.now.roster self.now.ruling self.now.given) self.now.roster.size.n == 0) }
     {
-        let n = self.roster.size().n();
-        let mut sum = 0;
-        for i in 0..n {
-            if self.is_owed(i + 1) {
-                sum += 1;
-            }
-        }
-        sum
+        (1..=self.roster.size().n()).all(|seat| !self.is_owed(seat))
     }
 }

@@ -1,12 +1,5 @@
-use Rattle.settling.proofs.Same.{due_decide, due_flag, due_none, due_over, due_vote}
+use Rattle.settling.proofs.Same.{due_decide, due_over, due_vote}
 use Rattle.settling.proofs.due.due.Goals as goal
-
-pub returns-in_default : goal.returns-in_default
-returns-in_default c = due_none _ _ c.args.seat _ _ _ c.in_default.is
-
-pub returns-then-is_flag_due : goal.returns-then-is_flag_due
-returns-then-is_flag_due c =
-    due_flag _ _ c.args.seat _ _ _ c.in-Some.code _ c.in-Some.is c.if-is_flag_due.ensures c.flag_of.ensures
 
 pub returns-then-is_vote_due : goal.returns-then-is_vote_due
 returns-then-is_vote_due c =

@@ -3,5 +3,5 @@ use Rattle.roster.specs.Votes.{by_seat}
 use Rattle.settling.specs.Rules.{leading}
 use Rattle.settling.proofs.lead.tally.Given as goal
 
-abbrev pub invariant-loop-i : goal.invariant-loop-i
-invariant-loop-i l = l.lead ≡ leading l.size.n (by_seat l.row) l.i
+abbrev pub invariant-loop-settled : goal.invariant-loop-settled
+invariant-loop-settled l = l.lead ≡ leading l.size.n (by_seat l.row) l.settled-index

@@ -1,29 +1,19 @@
-use Rattle.std.proofs.Common.{false, sym, ap, ◌∙◌, arith, rules}
-use Rattle.roster.specs.Checks.{answer}
-use Rattle.umpire.proofs.Effects.{noted_moved, noted_kept, given_moved, given_kept}
-use Rattle.umpire.proofs.Granted.{keeps_by, may_note, may_give, step_one, step_two}
+use Rattle.std.proofs.Common.{false, Some, rules}
+use Rattle.roster.proofs.Unnamed.{unnamed}
+use Rattle.roster.specs.declared.denial.Denial.TheVariants.{NoSuchAddress}
+use Rattle.umpire.specs.Calls.{note_denial, give_denial}
+use Rattle.umpire.proofs.Effects.{note_keeps, give_keeps}
 use Rattle.umpire.proofs.umpire.agree.UmpireAgreement.step.Goals as goal
 
-pub returns-in-1 : goal.returns-in-1
-returns-in-1 c =
-    let m = sym c.if-not-has_choice.ensures in
-    let may = may_note _ false _ _ _ c.note.ensures.value in
-    record {
-      matched = search rules;
-      same = c.note.ensures.same;
-      after = λ k. noted_moved _ _ _ _ (c.note.ensures.after k) m (may k);
-      keeps = keeps_by _ _ _ c.note.ensures.same (λ k. noted_kept _ _ _ _ (c.note.ensures.after k) false (may k));
-      steps = record { value = c.note.ensures.value ∙ ap (λ d. answer d tt) (step_one c.args.self.now m c.args.by (omega arith) c.in-1.is); stray = λ k one. c.note.ensures.after k; handed = λ k two. absurd (omega arith) };
-    }
+pub returns-in_err-try_from-clause-steps : goal.returns-in_err-try_from-clause-steps
+returns-in_err-try_from-clause-steps c =
+    let none = unnamed c.args.by.kind (note_denial c.args.self.now false c.args.by.from c.args.by.code) (give_denial c.args.self.now c.args.by.to) (Some NoSuchAddress) (search rules) in
+    record { value = search (rules, none); stray = search rules; handed = search rules }
 
-pub returns-in-2 : goal.returns-in-2
-returns-in-2 c =
-    let m = sym c.if-not-has_choice.ensures in
-    let may = may_give _ _ _ c.give.ensures.value in
-    record {
-      matched = search rules;
-      same = c.give.ensures.same;
-      after = λ k. given_moved _ _ _ (c.give.ensures.after k) m (may k);
-      keeps = keeps_by _ _ _ c.give.ensures.same (λ k. given_kept _ _ _ (c.give.ensures.after k) (may k));
-      steps = record { value = c.give.ensures.value ∙ ap (λ d. answer d tt) (step_two c.args.self.now m c.args.by (omega arith) c.in-2.is); stray = λ k one. absurd (omega arith); handed = λ k two. c.give.ensures.after k };
-    }
+pub returns-in-Stray-clause-keeps : goal.returns-in-Stray-clause-keeps
+returns-in-Stray-clause-keeps c =
+    note_keeps _ _ false _ _ _ c.note.ensures.value c.note.ensures.same c.note.ensures.after
+
+pub returns-in-HandOver-clause-keeps : goal.returns-in-HandOver-clause-keeps
+returns-in-HandOver-clause-keeps c =
+    give_keeps _ _ _ _ c.give.ensures.value c.give.ensures.same c.give.ensures.after
