@@ -6,4 +6,5 @@ pub mod due;
 pub mod holdings;
 pub mod lead;
 pub mod record;
+pub mod row;
 pub mod settle;

@@ -9,7 +9,6 @@ use agreement::agreement::Agreement;
 use carrier::carrier::Carrier;
 use roster::decision::Decision;
 use roster::size::Size;
-use settling::due::due;
 use settling::holdings::Holdings;
 use settling::record::Due;
 use std::array;
@@ -59,15 +58,11 @@ impl<C: Carrier, B: Agreement> Reduction<C, B> {
         ensures { result ≡ due_at (layer_of C.Carrier B.Agreement self.now) seat }
     {
         let held = Holdings {
+            size: self.size(),
             codes: self.row(seat, 1),
             flags: self.row(seat, 2),
         };
-        due(
-            self.size(),
-            self.table.seat(seat),
-            &held,
-            self.decided(seat),
-        )
+        held.due(self.table.seat(seat), self.decided(seat))
     }
 
     // Whether a seat, if it is sound, has nothing due.
