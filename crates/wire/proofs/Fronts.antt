@@ -1,9 +1,9 @@
 -- The bytes that a letter may have at each place, and the fronts that begin one. Assumes nothing.
-use Rattle.std.proofs.Common.{◌≡◌, ℕ, zero, suc, ◌+◌, ◌-◌, ◌^◌, ◌<◌, ◌≤◌, min, true, T, ltb, List, [], ◌∷◌, ◌++◌, map, length, get_or, take, drop, replicate, sym, refl, ap, ◌∙◌, subst, ⊎_elim, le_of_suc-le-suc, not-suc-le-zero, arith, lit<, length-append, length-drop}
+use Rattle.std.proofs.Common.{◌≡◌, ℕ, zero, suc, ◌+◌, ◌-◌, ◌^◌, ◌<◌, ◌≤◌, min, true, T, ltb, List, [], ◌∷◌, ◌++◌, map, length, get_or, take, drop, replicate, sym, refl, ap, ◌∙◌, subst, ◌⊎◌, inl, inr, ⊎_elim, le_of_suc-le-suc, not-suc-le-zero, arith, lit<, length-append, length-drop}
 use Rattle.std.specs.List.{range_with_len}
 use Rattle.std.proofs.lemmas.List.FromFn.{fill_by_all}
 use Rattle.std.proofs.lemmas.List.{get_or_append_left, get_or-append_right, get_or-drop, get_or-replicate, get_or-take, length-take-le}
-use Rattle.std.proofs.lemmas.Bool.{cases_lt}
+use Rattle.std.proofs.lemmas.Bool.{cases_eq, cases_lt}
 use Rattle.std.proofs.lemmas.Bool.Decides.{nat_tests}
 use Rattle.wire.specs.declared.letter.Letter.{Letter}
 use Rattle.wire.specs.Letters.{big_endian, bytes_of, value, proper, Proper, IsLetter, Begins, Longest, WordWithin}
@@ -29,6 +29,12 @@ Allowed k b = (get_or lows k 0 ≤ b) × (b ≤ get_or highs k 0)
 -- the first n bytes are allowed where they stand
 abbrev pub Fit : List ℕ → ℕ → Type 0
 Fit bs n = (k : ℕ) → k < n → Allowed k (get_or bs k 0)
+
+below_or : (k n : ℕ) → k < n + 1 → (k < n) ⊎ (k ≡ n)
+below_or k n lt = elim (cases_eq k n) [ inl e ↦ inr e | inr other ↦ inl (omega arith) ]
+
+pub fit_more : (bs : List ℕ) (n : ℕ) → Fit bs n → Allowed n (get_or bs n 0) → Fit bs (n + 1)
+fit_more bs n before here k lt = ⊎_elim (λ l. before k l) (λ e. rw e here) (below_or k n lt)
 
 -- each number of one list is at most that of the other
 abbrev AtMost : List ℕ → List ℕ → Type 0
@@ -134,6 +140,9 @@ longest_front bs place within small fit stops =
 -- what is allowed in the head
 pub allowed_head : (k b : ℕ) → k < 15 → Allowed k b → (get_or head_lows k 0 ≤ b) × (b ≤ get_or head_highs k 0)
 allowed_head k b h a = (omega (arith, get_or_append_left head_lows (replicate 8 0) 0 k h), omega (arith, get_or_append_left head_highs (replicate 8 255) 0 k h))
+
+pub allowed_from : (k b : ℕ) → k < 15 → get_or head_lows k 0 ≤ b → b ≤ get_or head_highs k 0 → Allowed k b
+allowed_from k b h low high = (omega (arith, get_or_append_left head_lows (replicate 8 0) 0 k h), omega (arith, get_or_append_left head_highs (replicate 8 255) 0 k h))
 
 past_head : (xs : List ℕ) (b k : ℕ) → length xs ≡ 15 → 15 ≤ k → k < 23 → get_or (xs ++ replicate 8 b) k 0 ≡ b
 past_head xs b k e h lt = get_or-append_right xs (replicate 8 b) 15 k 0 e h ∙ get_or-replicate 8 (k - 15) b 0 (omega arith)

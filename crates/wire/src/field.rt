@@ -45,10 +45,10 @@ impl Field<'_> {
         ensures { result ≡ number_in self.now }
     {
         match self {
-            Field::Kind(content) => value_of(content),
-            Field::Origin(content) => value_of(content),
-            Field::Slot(content) => value_of(content),
-            Field::Code(content) => value_of(content),
+            Field::Kind(content)
+            | Field::Origin(content)
+            | Field::Slot(content)
+            | Field::Code(content) => value_of(content),
         }
     }
 }

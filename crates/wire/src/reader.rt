@@ -10,7 +10,8 @@ use roster::denial::Denial;
 // How many bytes stand before the code's, whose eight bytes may be any.
 const HEAD_LEN: usize = 15;
 
-// The smallest and the largest byte that a letter has at each place before its code.
+// The smallest and the largest byte that a letter has at each place before its code. Not one array of pairs: of the elements
+// of a constant array of pairs the check knows nothing.
 const LOW: [u8; HEAD_LEN] = [1, 0, 1, 1, 2, 0, 1, 1, 3, 0, 1, 1, 4, 0, 8];
 
 const HIGH: [u8; HEAD_LEN] = [1, 0, 1, 3, 2, 0, 1, 10, 3, 0, 1, 2, 4, 0, 8];
@@ -48,8 +49,8 @@ fn front(bytes: &[u8]) -> usize
     ensures { Longest bytes.now result }
 {
     let most = bytes.len().min(LETTER_LEN);
-    for place in 0..most.min(HEAD_LEN) {
-        if bytes[place] < LOW[place] || bytes[place] > HIGH[place] {
+    for (place, byte) in bytes[..most.min(HEAD_LEN)].iter().enumerate() {
+        if *byte < LOW[place] || *byte > HIGH[place] {
             return place;
         }
     }
