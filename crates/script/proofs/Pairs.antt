@@ -1,30 +1,22 @@
 -- Two digits a byte. Assumes nothing.
-use Rattle.std.proofs.Common.{◌≡◌, ℕ, zero, suc, ◌+◌, ◌*◌, ◌/◌, ◌%◌, ◌<◌, true, List, [], ◌∷◌, ◌++◌, length, get_or, take, Ok, Err, vec_items, Result, Vec, sym, refl, ap, ◌∙◌, arith}
-use lib.Utf8.{encode}
+use Rattle.std.proofs.Common.{◌≡◌, ℕ, zero, suc, ◌+◌, ◌*◌, ◌/◌, ◌%◌, ◌<◌, ◌≤◌, true, List, [], ◌∷◌, ◌++◌, length, get_or, take, Ok, Err, vec_items, Result, Vec, sym, refl, ap, ◌∙◌, arith}
 use Rattle.std.specs.List.{AllByRecursion}
 use Rattle.std.specs.Char.{digit_value}
 use Rattle.std.specs.Fmt.{digit_glyph}
-use Rattle.std.proofs.lemmas.Str.Ascii.{encode_ascii}
+use Rattle.std.specs.Simd.{first_chunks}
 use Rattle.std.proofs.lemmas.List.{take_more, ext_get_or}
 use Rattle.std.proofs.lemmas.Bool.Decides.{nat_tests}
 use Rattle.script.specs.declared.hex.NoHex.{NoHex}
 use Rattle.script.specs.declared.hex.NoHex.TheVariants.{Digit, Odd, Memory}
 use Rattle.script.specs.Hex.{hex_of, HexDigits, InHex, Decoded, ReadsBack}
 
-glyph_ascii : (d : ℕ) → d < 16 → digit_glyph true d < 128
-glyph_ascii d small = grind (arith, nat_tests)
-
 hex_push : (bs : List ℕ) (b : ℕ) → hex_of (bs ++ (b ∷ [])) ≡ hex_of bs ++ hex_of (b ∷ [])
 hex_push [] b = refl
 hex_push (a ∷ bs) b = ap (λ l. digit_glyph true (a / 16) ∷ digit_glyph true (a % 16) ∷ l) (hex_push bs b)
 
 -- what is written of one byte more
-pub hex_more : (bs : List ℕ) (i high low : ℕ) → i < length bs → get_or bs i 0 < 256 → high ≡ digit_glyph true (get_or bs i 0 / 16) → low ≡ digit_glyph true (get_or bs i 0 % 16) → hex_of (take i bs) ++ (encode high ++ encode low) ≡ hex_of (take (i + 1) bs)
-hex_more bs i high low within byte h l =
-    let b = get_or bs i 0 in
-    let one : encode high ++ encode low ≡ hex_of (b ∷ []) =
-    rw (h, l, encode_ascii _ (glyph_ascii (b / 16) (omega arith)), encode_ascii _ (glyph_ascii (b % 16) (omega arith))) in
-    ap (λ l. hex_of (take i bs) ++ l) one ∙ sym (hex_push (take i bs) b) ∙ ap hex_of (sym (take_more bs i 0 within))
+pub hex_more : (bs : List ℕ) (i : ℕ) → i < length bs → hex_of (take i bs) ++ (digit_glyph true (get_or bs i 0 / 16) ∷ digit_glyph true (get_or bs i 0 % 16) ∷ []) ≡ hex_of (take (i + 1) bs)
+hex_more bs i within = sym (hex_push (take i bs) (get_or bs i 0)) ∙ ap hex_of (sym (take_more bs i 0 within))
 
 glyph_value : (d : ℕ) → d < 16 → digit_value (digit_glyph true d) ≡ d
 glyph_value d small = grind (arith, nat_tests)
@@ -49,6 +41,17 @@ hex_pairs (b ∷ bs) all (suc k) h =
     let high : 2 * suc k ≡ suc (suc (2 * k)) = omega arith in
     let low : suc (suc (2 * k)) + 1 ≡ suc (suc (2 * k + 1)) = omega arith in
     rw (high, low) (hex_pairs bs all.1 k (omega arith))
+
+-- two digits at a time
+pub pair_at : (n : ℕ) (xs : List ℕ) (k : ℕ) → k < n → 2 * n ≤ length xs → (get_or (get_or (first_chunks 2 n xs) k []) 0 0 ≡ get_or xs (2 * k) 0) × (get_or (get_or (first_chunks 2 n xs) k []) 1 0 ≡ get_or xs (2 * k + 1) 0)
+pair_at zero xs k lt fits = absurd (omega arith)
+pair_at (suc n) [] k lt fits = absurd (omega arith)
+pair_at (suc n) (x ∷ []) k lt fits = absurd (omega arith)
+pair_at (suc n) (x ∷ y ∷ xs) zero lt fits = (refl, refl)
+pair_at (suc n) (x ∷ y ∷ xs) (suc k) lt fits =
+    let high : 2 * suc k ≡ suc (suc (2 * k)) = omega arith in
+    let low : suc (suc (2 * k)) + 1 ≡ suc (suc (2 * k + 1)) = omega arith in
+    rw (high, low) (pair_at n xs k (omega arith) (omega arith))
 
 one_reading : (text bs cs : List ℕ) → InHex text bs → InHex text cs → bs ≡ cs
 one_reading text bs cs p q =

@@ -1,8 +1,8 @@
 // Bytes in hex: two digits a byte, the high one first.
-ghost use Rattle.std.specs.Prelude.{◌≡◌, ◌%◌, ◌<◌, true, length, IfOk, Some, Decides};
+ghost use Rattle.std.specs.Prelude.{◌≡◌, ◌%◌, ◌<◌, length, IfOk, Some, Decides};
 ghost use Rattle.script.specs.Hex.{hex_of, HexDigits, InHex, Decoded, ReadsBack};
+ghost use Rattle.script.specs.declared.hex.NoHex.TheVariants.{Memory};
 ghost use Rattle.std.specs.Char.{digit_value};
-ghost use Rattle.std.specs.Fmt.{digit_glyph};
 
 use std::alloc::{AllocError, Global};
 use std::fmt;
@@ -15,22 +15,11 @@ impl fmt::Display for Hex<'_> {
     ghost output = { λ h. Some (hex_of h.0.now) };
 
     fn fmt<W: fmt::Write>(&self, f: &mut fmt::Formatter<W>) -> fmt::Result {
-        for b in self.0 {
-            let high = digit(b / 16);
-            let low = digit(b % 16);
-            write!(f, "{high}{low}")?;
+        for &b in self.0 {
+            write!(f, "{b:02X}")?;
         }
         Ok(())
     }
-}
-
-// The upper-case digit of base 16 for n.
-fn digit(n: u8) -> char
-    requires { n < 16 }
-    ensures value { result ≡ digit_glyph true n }
-{
-    let code = if n < 10 { b'0' + n } else { b'A' + (n - 10) };
-    code as char
 }
 
 // Why a text is no bytes in hex.
@@ -42,6 +31,14 @@ pub enum NoHex {
     Odd,
     // there is no memory for the bytes
     Memory,
+}
+
+impl From<AllocError> for NoHex {
+    ghost from_gives = { λ _ e. e ≡ Memory };
+
+    fn from(_e: AllocError) -> NoHex {
+        NoHex::Memory
+    }
 }
 
 // The bytes of a text in hex, in digits of either case. The text is judged before memory is asked for.
@@ -56,48 +53,37 @@ pub fn decode(heap: Global, text: &str) -> Result<Vec<u8>, NoHex>
     if digits.len() % 2 == 1 {
         return Err(NoHex::Odd);
     }
-    match paired(heap, digits) {
-        Ok(bytes) => Ok(bytes),
-        Err(_) => Err(NoHex::Memory),
-    }
+    Ok(paired(heap, digits)?)
 }
 
 // Whether each byte is a digit of base 16.
 fn all_digits(text: &[u8]) -> bool
     ensures value { Decides result (HexDigits text.now) }
 {
-    for b in text {
-        if value(*b) >= 16 {
-            return false;
-        }
-    }
-    true
+    text.iter().all(|b| char::from(*b).is_digit(16))
 }
 
 // Each two digits as a byte.
+#[tactic(auto, using(crate::proofs::Pairs::pair_at))]
 fn paired(heap: Global, digits: &[u8]) -> Result<Vec<u8>, AllocError>
     requires digits { HexDigits digits.now }
     requires even { length digits.now % 2 ≡ 0 }
     ensures made { IfOk result (λ v. InHex digits.now v.items) }
 {
-    let count = digits.len() / 2;
-    let mut bytes = Vec::with_capacity(heap, count)?;
-    for k in 0..count {
-        bytes.push(16 * value(digits[2 * k]) + value(digits[2 * k + 1]))?;
+    let mut bytes = Vec::with_capacity(heap, digits.len() / 2)?;
+    let (pairs, _) = digits.as_chunks::<2>();
+    for [high, low] in pairs {
+        bytes.push(16 * value(*high) + value(*low))?;
     }
     Ok(bytes)
 }
 
-// What a digit or a letter stands for in bases up to 36, and 36 for any other byte.
+// What a digit stands for.
 fn value(digit: u8) -> u8
+    requires { digit_value digit < 16 }
     ensures value { result ≡ digit_value digit }
 {
-    match digit {
-        b'0'..=b'9' => digit - b'0',
-        b'A'..=b'Z' => digit - b'A' + 10,
-        b'a'..=b'z' => digit - b'a' + 10,
-        _ => 36,
-    }
+    char::from(digit).to_digit(16).unwrap() as u8
 }
 
 #[cfg(test)]

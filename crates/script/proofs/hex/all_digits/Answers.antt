@@ -1,5 +1,6 @@
-use Rattle.std.proofs.Common.{rules, below_more}
+use Rattle.std.proofs.Common.{rules}
+use Rattle.std.proofs.iter.runs.Made.{chains}
 use Rattle.script.proofs.hex.all_digits.Goals as goal
 
-pub loop-b-preserved : goal.loop-b-preserved
-loop-b-preserved c = below_more _ _ c.loop-b.invariant (search rules)
+pub returns : goal.returns
+returns c = search (rules, chains)
