@@ -6,7 +6,7 @@ use Rattle.jobs.specs.declared.job.NoJob.{NoJob}
 use Rattle.jobs.specs.declared.job.NoJob.TheVariants.{Unknown, Numbers, Hex, Memory}
 use Rattle.script.specs.Hex.{InHex}
 use Rattle.script.specs.Numbers.{Follow}
-use Rattle.script.specs.Words.{word_at, Silent, Words}
+use Rattle.script.specs.Words.{word_at, Silent, AreWords}
 use Rattle.wire.specs.declared.letter.Letter.{Letter}
 
 -- a word, and the four numbers of a letter
@@ -40,4 +40,4 @@ Asked ws (Err Memory) = Unit {0}
 
 -- by the line's words, unless there was no memory for them
 abbrev pub Parsed : List ℕ → Result (Option Job) NoJob → Type 0
-Parsed line r = (r ≡ Err Memory) ⊎ ((ws : List (List ℕ)) × Words line ws × Asked ws r)
+Parsed line r = (r ≡ Err Memory) ⊎ ((ws : List (List ℕ)) × AreWords line ws × Asked ws r)

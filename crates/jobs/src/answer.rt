@@ -41,18 +41,16 @@ impl fmt::Display for Answer {
 
     fn fmt<W: fmt::Write>(&self, f: &mut fmt::Formatter<W>) -> fmt::Result {
         match self {
-            Answer::Bytes(bytes) => {
-                let hex = Hex(bytes);
-                write!(f, "{hex}")
-            }
-            Answer::Numbers(letter) => {
-                let kind = letter.kind;
-                let origin = letter.origin;
-                let slot = letter.slot;
-                let code = letter.code;
-                write!(f, "kind {kind} origin {origin} slot {slot} code {code}")
-            }
-            Answer::Denied(denial) => write!(f, "{denial}"),
+            Answer::Bytes(bytes) => Hex(bytes).fmt(f),
+            Answer::Numbers(
+                Letter {
+                    kind,
+                    origin,
+                    slot,
+                    code,
+                },
+            ) => write!(f, "kind {kind} origin {origin} slot {slot} code {code}"),
+            Answer::Denied(denial) => denial.fmt(f),
         }
     }
 }

@@ -1,7 +1,10 @@
 // What a line may ask for.
 ghost use Rattle.std.specs.Prelude.{◌≡◌, Some};
-ghost use Rattle.jobs.specs.Expected.{expected};
+ghost use Rattle.jobs.specs.Expected.{expected, no_hex};
+ghost use Rattle.jobs.specs.declared.job.NoJob.TheVariants.{Memory};
 
+use script::hex::NoHex;
+use std::alloc::AllocError;
 use std::fmt;
 use wire::letter::Letter;
 
@@ -26,16 +29,21 @@ pub enum NoJob {
     Memory,
 }
 
-impl NoJob {
-    fn words(&self) -> &'static str
-        ensures { result.now ≡ expected self.now }
-    {
-        match self {
-            NoJob::Unknown => "expected `write KIND ORIGIN SLOT CODE` or `read HEX`",
-            NoJob::Numbers =>
-                "expected `write KIND ORIGIN SLOT CODE`, four decimal numbers below 2^64",
-            NoJob::Hex => "expected `read HEX`, one word of an even number of hex digits",
-            NoJob::Memory => "there is no memory to read it",
+impl From<AllocError> for NoJob {
+    ghost from_gives = { λ _ e. e ≡ Memory };
+
+    fn from(_e: AllocError) -> NoJob {
+        NoJob::Memory
+    }
+}
+
+impl From<NoHex> for NoJob {
+    ghost from_gives = { λ x e. e ≡ no_hex x };
+
+    fn from(e: NoHex) -> NoJob {
+        match e {
+            NoHex::Digit | NoHex::Odd => NoJob::Hex,
+            NoHex::Memory => NoJob::Memory,
         }
     }
 }
@@ -45,7 +53,12 @@ impl fmt::Display for NoJob {
     ghost output = { λ e. Some (expected e) };
 
     fn fmt<W: fmt::Write>(&self, f: &mut fmt::Formatter<W>) -> fmt::Result {
-        let words = self.words();
-        write!(f, "{words}")
+        f.write_str(match self {
+            NoJob::Unknown => "expected `write KIND ORIGIN SLOT CODE` or `read HEX`",
+            NoJob::Numbers =>
+                "expected `write KIND ORIGIN SLOT CODE`, four decimal numbers below 2^64",
+            NoJob::Hex => "expected `read HEX`, one word of an even number of hex digits",
+            NoJob::Memory => "there is no memory to read it",
+        })
     }
 }

@@ -1,12 +1,10 @@
 // From a line to a job.
-ghost use Rattle.std.specs.Prelude.{◌≡◌, [], ◌∷◌, map, length, IfOk, MatchOption, ◌≢◌};
+ghost use Rattle.std.specs.Prelude.{◌≡◌, [], ◌∷◌, length, IfOk, MatchOption, ◌≢◌};
 ghost use Rattle.jobs.specs.Jobs.{Asked, FourNumbers, Hexed, Parsed};
 
 use crate::job::{Job, NoJob};
 use script::hex;
-use script::hex::NoHex;
-use script::numbers::numbers;
-use script::words::{is_silent, word, words};
+use script::words::Words;
 use std::alloc::{AllocError, Global};
 use wire::letter::Letter;
 
@@ -14,71 +12,56 @@ use wire::letter::Letter;
 pub fn parse(heap: Global, line: &str) -> Result<Option<Job>, NoJob>
     ensures { Parsed line.now result }
 {
-    match words(heap, line) {
-        Ok(words) => asked(heap, words.as_slice()),
-        Err(_) => Err(NoJob::Memory),
-    }
+    asked(heap, &Words::of(heap, line)?)
 }
 
 // What the words ask for.
-fn asked(heap: Global, words: &[&str]) -> Result<Option<Job>, NoJob>
-    ensures { Asked (map (λ w. w.now) words.now) result }
+fn asked(heap: Global, words: &Words<'_>) -> Result<Option<Job>, NoJob>
+    ensures { Asked words.now result }
 {
-    if is_silent(words) {
+    if words.is_silent() {
         return Ok(None);
     }
-    let first = word(words, 0);
-    if first == "write" {
-        return match four_numbers(heap, words) {
-            Ok(Some(letter)) => Ok(Some(Job::Write(letter))),
-            Ok(None) => Err(NoJob::Numbers),
-            Err(_) => Err(NoJob::Memory),
-        };
+    match words.word(0) {
+        "write" => {
+            let letter = four_numbers(heap, words)?.ok_or(NoJob::Numbers)?;
+            Ok(Some(Job::Write(letter)))
+        }
+        "read" => Ok(Some(Job::Read(one_hex(heap, words)?))),
+        _ => Err(NoJob::Unknown),
     }
-    if first == "read" {
-        return match one_hex(heap, words) {
-            Ok(bytes) => Ok(Some(Job::Read(bytes))),
-            Err(e) => Err(e),
-        };
-    }
-    Err(NoJob::Unknown)
 }
 
 // The letter whose numbers follow the first word.
-fn four_numbers(heap: Global, words: &[&str]) -> Result<Option<Letter>, AllocError>
-    ensures { IfOk result (λ found. MatchOption found ((l : Letter) → FourNumbers (map (λ w. w.now) words.now) l → ⊥) (FourNumbers (map (λ w. w.now) words.now))) }
+fn four_numbers(heap: Global, words: &Words<'_>) -> Result<Option<Letter>, AllocError>
+    ensures { IfOk result (λ found. MatchOption found ((l : Letter) → FourNumbers words.now l → ⊥) (FourNumbers words.now)) }
 {
-    match numbers(heap, words)? {
-        Some(ns) => Ok(four(ns.as_slice())),
-        None => Ok(None),
-    }
+    let Some(numbers) = words.numbers(heap)? else {
+        return Ok(None);
+    };
+    Ok(four(numbers.as_slice()))
 }
 
 fn four(ns: &[u64]) -> Option<Letter>
     ensures { MatchOption result (length ns.now ≢ 4) (λ l. l.kind ∷ l.origin ∷ l.slot ∷ l.code ∷ [] ≡ ns.now) }
 {
-    let [kind, origin, slot, code] = ns else {
+    let &[kind, origin, slot, code] = ns else {
         return None;
     };
     Some(Letter {
-        kind: *kind,
-        origin: *origin,
-        slot: *slot,
-        code: *code,
+        kind,
+        origin,
+        slot,
+        code,
     })
 }
 
 // The bytes that follow the first word in hex.
-fn one_hex(heap: Global, words: &[&str]) -> Result<Vec<u8>, NoJob>
-    ensures { Hexed (map (λ w. w.now) words.now) result }
+fn one_hex(heap: Global, words: &Words<'_>) -> Result<Vec<u8>, NoJob>
+    ensures { Hexed words.now result }
 {
     if words.len() != 2 {
         return Err(NoJob::Hex);
     }
-    match hex::decode(heap, word(words, 1)) {
-        Ok(bytes) => Ok(bytes),
-        Err(NoHex::Digit) => Err(NoJob::Hex),
-        Err(NoHex::Odd) => Err(NoJob::Hex),
-        Err(NoHex::Memory) => Err(NoJob::Memory),
-    }
+    Ok(hex::decode(heap, words.word(1))?)
 }

@@ -2,6 +2,7 @@
 #![tactic(auto)]
 
 mod story;
+mod subject;
 
 use anyhow::anyhow;
 use std::env;

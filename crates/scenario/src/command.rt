@@ -1,6 +1,6 @@
 // The first words of lines.
 ghost use Rattle.std.specs.Prelude.{◌≡◌, MatchOption, ◌≢◌, Some};
-ghost use Rattle.scenario.specs.Expected.{remark, usage};
+ghost use Rattle.scenario.specs.Expected.{usage};
 ghost use Rattle.scenario.specs.Lines.{name};
 
 use std::fmt;
@@ -16,11 +16,12 @@ pub enum Command {
     Settle,
 }
 
-impl Command {
-    fn usage(&self) -> &'static str
-        ensures { result.now ≡ usage self.now }
-    {
-        match self {
+// How a line with this command is written.
+impl fmt::Display for Command {
+    ghost output = { λ c. Some (usage c) };
+
+    fn fmt<W: fmt::Write>(&self, f: &mut fmt::Formatter<W>) -> fmt::Result {
+        f.write_str(match self {
             Command::Carrier => "`carrier letters` or `carrier board`",
             Command::Roster => "`roster N T SET`",
             Command::Put => "`put SEAT SLOT CODE`",
@@ -28,27 +29,7 @@ impl Command {
             Command::Holds => "`holds SEAT ORIGIN SLOT`",
             Command::Still => "`still`",
             Command::Settle => "`settle`",
-        }
-    }
-
-    // What is said of its numbers where a line is refused.
-    pub(crate) fn remark(&self) -> &'static str
-        ensures { result.now ≡ remark self.now }
-    {
-        match self {
-            Command::Carrier => "",
-            _ => ", numbers decimal and below 2^64",
-        }
-    }
-}
-
-// How a line with this command is written.
-impl fmt::Display for Command {
-    ghost output = { λ c. Some (usage c) };
-
-    fn fmt<W: fmt::Write>(&self, f: &mut fmt::Formatter<W>) -> fmt::Result {
-        let usage = self.usage();
-        write!(f, "{usage}")
+        })
     }
 }
 

@@ -1,9 +1,11 @@
 // What a line asks for.
 ghost use Rattle.scenario.specs.Expected.{expected};
-ghost use Rattle.std.specs.Prelude.{Some};
+ghost use Rattle.scenario.specs.declared.line.NoLine.TheVariants.{Memory};
+ghost use Rattle.std.specs.Prelude.{◌≡◌, Some};
 
 use crate::command::Command;
 use carrier::history::Act;
+use std::alloc::AllocError;
 use std::fmt;
 
 #[derive(Clone, Copy, PartialEq, Eq, Debug)]
@@ -14,8 +16,6 @@ pub enum Kind {
 
 #[derive(Clone, Copy)]
 pub enum Line {
-    // nothing: an empty line or a comment
-    Silent,
     Carrier(Kind),
     Roster { n: u64, t: u64, faulty: u64 },
     Act(Act),
@@ -34,21 +34,28 @@ pub enum NoLine {
     Memory,
 }
 
+impl From<AllocError> for NoLine {
+    ghost from_gives = { λ _ e. e ≡ Memory };
+
+    fn from(_e: AllocError) -> NoLine {
+        NoLine::Memory
+    }
+}
+
 // What was expected in place of the line.
 impl fmt::Display for NoLine {
     ghost output = { λ e. Some (expected e) };
 
     fn fmt<W: fmt::Write>(&self, f: &mut fmt::Formatter<W>) -> fmt::Result {
         match self {
-            NoLine::Unknown => write!(
-                f,
-                "expected `carrier`, `roster`, `put`, `move`, `holds`, `still` or `settle`"
+            NoLine::Unknown => f.write_str(
+                "expected `carrier`, `roster`, `put`, `move`, `holds`, `still` or `settle`",
             ),
+            NoLine::Wrong(Command::Carrier) => write!(f, "expected {}", Command::Carrier),
             NoLine::Wrong(command) => {
-                let remark = command.remark();
-                write!(f, "expected {command}{remark}")
+                write!(f, "expected {command}, numbers decimal and below 2^64")
             }
-            NoLine::Memory => write!(f, "there is no memory to read it"),
+            NoLine::Memory => f.write_str("there is no memory to read it"),
         }
     }
 }

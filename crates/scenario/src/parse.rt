@@ -1,5 +1,5 @@
 // From a line to what it asks for.
-ghost use Rattle.std.specs.Prelude.{◌≡◌, [], ◌∷◌, map, length, IfOk, Some, MatchOption, ◌≢◌};
+ghost use Rattle.std.specs.Prelude.{◌≡◌, IfOk, MatchOption, ◌≢◌};
 ghost use Rattle.scenario.specs.declared.command.Command.TheVariants.{Carrier as carrier};
 ghost use Rattle.scenario.specs.Lines.{command_of, numbers_of, Parsed, Reads, Rest};
 
@@ -7,55 +7,48 @@ use crate::command::{Command, named};
 use crate::line::{Kind, Line, NoLine};
 use carrier::history::Act;
 use roster::moves::Move;
-use script::numbers::numbers;
-use script::words::{is_silent, word, words};
+use script::words::Words;
 use std::alloc::{AllocError, Global};
 
-pub fn parse(heap: Global, line: &str) -> Result<Line, NoLine>
+// What the line asks for, and nothing for an empty line or a comment.
+pub fn parse(heap: Global, line: &str) -> Result<Option<Line>, NoLine>
     ensures { Parsed line.now result }
 {
-    match words(heap, line) {
-        Ok(words) => asked(heap, words.as_slice()),
-        Err(_) => Err(NoLine::Memory),
-    }
+    asked(heap, &Words::of(heap, line)?)
 }
 
-fn asked(heap: Global, words: &[&str]) -> Result<Line, NoLine>
-    ensures { Reads (map (λ w. w.now) words.now) result }
+// What the words ask for.
+fn asked(heap: Global, words: &Words<'_>) -> Result<Option<Line>, NoLine>
+    ensures { Reads words.now result }
 {
-    if is_silent(words) {
-        return Ok(Line::Silent);
+    if words.is_silent() {
+        return Ok(None);
     }
-    let Some(command) = named(word(words, 0)) else {
-        return Err(NoLine::Unknown);
-    };
-    match rest(heap, command, words) {
-        Ok(Some(line)) => Ok(line),
-        Ok(None) => Err(NoLine::Wrong(command)),
-        Err(_) => Err(NoLine::Memory),
-    }
+    let command = named(words.word(0)).ok_or(NoLine::Unknown)?;
+    let line = rest(heap, command, words)?.ok_or(NoLine::Wrong(command))?;
+    Ok(Some(line))
 }
 
 // The line of a command, by what follows it.
-fn rest(heap: Global, command: Command, words: &[&str]) -> Result<Option<Line>, AllocError>
-    ensures { IfOk result (λ found. MatchOption found ((l : Line) → command_of l ≡ Some command → Rest (map (λ w. w.now) words.now) l → ⊥) (λ l. (command_of l ≡ Some command) × Rest (map (λ w. w.now) words.now) l)) }
+fn rest(heap: Global, command: Command, words: &Words<'_>) -> Result<Option<Line>, AllocError>
+    ensures { IfOk result (λ found. MatchOption found ((l : Line) → command_of l ≡ command → Rest words.now l → ⊥) (λ l. (command_of l ≡ command) × Rest words.now l)) }
 {
     if command == Command::Carrier {
         return Ok(kind(words));
     }
-    match numbers(heap, words)? {
-        Some(ns) => Ok(counted(command, ns.as_slice())),
-        None => Ok(None),
-    }
+    let Some(numbers) = words.numbers(heap)? else {
+        return Ok(None);
+    };
+    Ok(counted(command, numbers.as_slice()))
 }
 
-fn kind(words: &[&str]) -> Option<Line>
-    ensures { MatchOption result ((l : Line) → command_of l ≡ Some carrier → Rest (map (λ w. w.now) words.now) l → ⊥) (λ l. (command_of l ≡ Some carrier) × Rest (map (λ w. w.now) words.now) l) }
+fn kind(words: &Words<'_>) -> Option<Line>
+    ensures { MatchOption result ((l : Line) → command_of l ≡ carrier → Rest words.now l → ⊥) (λ l. (command_of l ≡ carrier) × Rest words.now l) }
 {
     if words.len() != 2 {
         return None;
     }
-    match word(words, 1) {
+    match words.word(1) {
         "letters" => Some(Line::Carrier(Kind::Letters)),
         "board" => Some(Line::Carrier(Kind::Board)),
         _ => None,
@@ -64,66 +57,28 @@ fn kind(words: &[&str]) -> Option<Line>
 
 // The line of a command that numbers follow.
 fn counted(command: Command, ns: &[u64]) -> Option<Line>
-    ensures { MatchOption result ((l : Line) → (command ≢ carrier) → command_of l ≡ Some command → numbers_of l ≢ ns.now) (λ l. (command_of l ≡ Some command) × (numbers_of l ≡ ns.now)) }
+    ensures { MatchOption result ((l : Line) → (command ≢ carrier) → command_of l ≡ command → numbers_of l ≢ ns.now) (λ l. (command_of l ≡ command) × (numbers_of l ≡ ns.now)) }
 {
-    match command {
-        Command::Carrier => None,
-        Command::Roster => match three(ns) {
-            Some((n, t, faulty)) => Some(Line::Roster { n, t, faulty }),
-            None => None,
-        },
-        Command::Put => match three(ns) {
-            Some((seat, slot, code)) => Some(Line::Act(Act::Put { seat, slot, code })),
-            None => None,
-        },
-        Command::Holds => match three(ns) {
-            Some((seat, origin, slot)) => Some(Line::Act(Act::Holds { seat, origin, slot })),
-            None => None,
-        },
-        Command::Move => match eight(ns) {
-            Some(by) => Some(Line::Act(Act::Move(by))),
-            None => None,
-        },
-        Command::Still => {
-            if ns.is_empty() {
-                Some(Line::Act(Act::Still))
-            } else {
-                None
-            }
+    match (command, ns) {
+        (Command::Roster, &[n, t, faulty]) => Some(Line::Roster { n, t, faulty }),
+        (Command::Put, &[seat, slot, code]) => Some(Line::Act(Act::Put { seat, slot, code })),
+        (Command::Holds, &[seat, origin, slot]) => {
+            Some(Line::Act(Act::Holds { seat, origin, slot }))
         }
-        Command::Settle => {
-            if ns.is_empty() {
-                Some(Line::Settle)
-            } else {
-                None
-            }
+        (Command::Move, &[address, kind, from, to, letter, origin, slot, code]) => {
+            Some(Line::Act(Act::Move(Move {
+                address,
+                kind,
+                from,
+                to,
+                letter,
+                origin,
+                slot,
+                code,
+            })))
         }
+        (Command::Still, []) => Some(Line::Act(Act::Still)),
+        (Command::Settle, []) => Some(Line::Settle),
+        _ => None,
     }
-}
-
-fn three(ns: &[u64]) -> Option<(u64, u64, u64)>
-    ensures { MatchOption result (length ns.now ≢ 3) (λ x. x.0 ∷ x.1 ∷ x.2 ∷ [] ≡ ns.now) }
-{
-    let [a, b, c] = ns else {
-        return None;
-    };
-    Some((*a, *b, *c))
-}
-
-fn eight(ns: &[u64]) -> Option<Move>
-    ensures { MatchOption result (length ns.now ≢ 8) (λ m. m.address ∷ m.kind ∷ m.from ∷ m.to ∷ m.letter ∷ m.origin ∷ m.slot ∷ m.code ∷ [] ≡ ns.now) }
-{
-    let [address, kind, from, to, letter, origin, slot, code] = ns else {
-        return None;
-    };
-    Some(Move {
-        address: *address,
-        kind: *kind,
-        from: *from,
-        to: *to,
-        letter: *letter,
-        origin: *origin,
-        slot: *slot,
-        code: *code,
-    })
 }

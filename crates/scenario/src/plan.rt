@@ -75,11 +75,7 @@ impl Acts<'_> {
     fn choose(&mut self) -> Option<Act>
         ensures { Goes (record { lines = self.old.lines.now; at = self.old.at; settling = self.old.settling }) result (record { lines = self.new.lines.now; at = self.new.at; settling = self.new.settling }) }
     {
-        if self.at >= self.lines.len() {
-            return None;
-        }
-        let line = self.lines[self.at];
-        match line {
+        match *self.lines.get(self.at)? {
             Line::Act(act) => {
                 self.at += 1;
                 Some(act)
@@ -115,8 +111,7 @@ impl Plan for Acts<'_> {
 
 // Whether a settling of so many acts is over.
 fn is_settled(history: &[Entry], acts: u64, n: u64) -> bool {
-    match history.last() {
-        Some(entry) => entry.still || acts >= most_of_settling(n),
-        None => true,
-    }
+    history
+        .last()
+        .is_none_or(|entry| entry.still || acts >= most_of_settling(n))
 }

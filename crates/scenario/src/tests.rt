@@ -7,7 +7,10 @@ use std::test::Fail;
 
 #[test]
 fn moves_have_eight_numbers(rt: HostRuntime) -> Result<(), Fail> {
-    let Line::Act(Act::Move(by)) = parse(rt.alloc(), "move 1 2 3 4 5 6 7 18446744073709551615")?
+    let Some(Line::Act(Act::Move(by))) = parse(
+        rt.alloc(),
+        "move 1 2 3 4 5 6 7 18446744073709551615",
+    )?
     else {
         return Err(Fail::new("no move"));
     };

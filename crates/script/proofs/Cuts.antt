@@ -6,7 +6,7 @@ use Rattle.std.specs.Str.{NoCharPasses, NonePass}
 use Rattle.std.proofs.lemmas.List.{append-nil, append_assoc, length-append}
 use Rattle.std.proofs.lemmas.Str.{encode_same, length-encode}
 use Rattle.std.proofs.lemmas.Bool.Decides.{nat_tests}
-use Rattle.script.specs.Words.{First, Words}
+use Rattle.script.specs.Words.{First, AreWords}
 
 some_width : (c : ℕ) → 0 < len_utf8 c
 some_width c = grind (arith, nat_tests)
@@ -62,11 +62,11 @@ module _ {text : List ℕ} where
       let words = span is_whitespace f.solid.0 g.solid.0 rest tail e f.solid.2 g.solid.2 (rest_starts f) (rest_starts g) in
       (sym f.solid.1 ∙ words.0 ∙ g.solid.1, words.1)
 
-pub one_way : (text : List ℕ) (ws vs : List (List ℕ)) → Words text ws → Words text vs → ws ≡ vs
+pub one_way : (text : List ℕ) (ws vs : List (List ℕ)) → AreWords text ws → AreWords text vs → ws ≡ vs
 one_way text [] [] p q = refl
 one_way text [] (v ∷ vs) p q = elim (some_word q.1 p) [ ]
 one_way text (w ∷ ws) [] p q = elim (some_word p.1 q) [ ]
 one_way text (w ∷ ws) (v ∷ vs) p q =
     let first = one_first p.1 q.1 in
-    let on = one_way q.0 ws vs (subst (λ l. Words l ws) first.1 p.2) q.2 in
+    let on = one_way q.0 ws vs (subst (λ l. AreWords l ws) first.1 p.2) q.2 in
     cc (first.0, on)

@@ -13,9 +13,9 @@ pub record First (text word rest : List ℕ) : Type 0 where
   pub ends : (more : List ℕ) × EmptyOrStartsWithPassing is_whitespace rest more
 
 -- ws are the words of the text, in order
-abbrev pub Words : List ℕ → List (List ℕ) → Type 0
-Words text [] = NoCharPasses is_not_whitespace text
-Words text (w ∷ ws) = (rest : List ℕ) × First text w rest × Words rest ws
+abbrev pub AreWords : List ℕ → List (List ℕ) → Type 0
+AreWords text [] = NoCharPasses is_not_whitespace text
+AreWords text (w ∷ ws) = (rest : List ℕ) × First text w rest × AreWords rest ws
 
 -- the word at a place, and nothing past the last one
 unfoldable pub word_at : List (List ℕ) → ℕ → List ℕ

@@ -2,6 +2,7 @@
 ghost use Rattle.script.specs.Numbers.{Number};
 
 // The number that the word's digits write; `None` where a byte is no digit, where there is none, and where 64 bits do not hold it.
+#[tactic(auto, using(std::proofs::lemmas::Str::Parse::digit_at))]
 pub fn number(word: &str) -> Option<u64>
     ensures value { Number word.now result }
 {

@@ -1,21 +1,39 @@
 // The numbers of a line.
-ghost use Rattle.std.specs.Prelude.{ℕ, List, map, IfOk, MatchOption};
+ghost use Rattle.std.specs.Prelude.{ℕ, List, IfOk, MatchOption};
 ghost use Rattle.script.specs.Numbers.{Follow};
 
 use crate::number::number;
-use crate::words::word;
+use crate::words::Words;
 use std::alloc::{AllocError, Global};
 
-// What follows the first word, if it is numbers and nothing else.
-pub fn numbers(heap: Global, words: &[&str]) -> Result<Option<Vec<u64>>, AllocError>
-    ensures { IfOk result (λ found. MatchOption found ((ns : List ℕ) → Follow (map (λ w. w.now) words.now) ns → ⊥) (λ v. Follow (map (λ w. w.now) words.now) v.items)) }
-{
-    let mut all = Vec::new(heap);
-    for k in 1..words.len() {
-        let Some(n) = number(word(words, k)) else {
-            return Ok(None);
-        };
-        all.push(n)?;
+impl Words<'_> {
+    // What follows the first word, if it is numbers and nothing else.
+    pub fn numbers(&self, heap: Global) -> Result<Option<Vec<u64>>, AllocError>
+        ensures { IfOk result (λ found. MatchOption found ((ns : List ℕ) → Follow self.now ns → ⊥) (λ v. Follow self.now v.items)) }
+    {
+        let mut all = Vec::new(heap);
+        for word in self.rest() {
+            let Some(n) = number(word) else {
+                return Ok(None);
+            };
+            all.push(n)?;
+        }
+        Ok(Some(all))
     }
-    Ok(Some(all))
+}
+
+#[cfg(test)]
+mod tests {
+    use super::*;
+    use std::test::Fail;
+
+    #[test]
+    fn numbers_follow_the_first_word(rt: HostRuntime) -> Result<(), Fail> {
+        let heap = rt.alloc();
+        let some = Words::of(heap, "put 1 20 300")?.numbers(heap)?;
+        assert!(rt; some.is_some_and(|ns| ns.as_slice() == [1, 20, 300].as_slice()));
+        let other = Words::of(heap, "put 1 two")?.numbers(heap)?;
+        assert!(rt; other.is_none());
+        Ok(())
+    }
 }

@@ -5,13 +5,13 @@ use Rattle.scenario.specs.declared.command.Command.TheVariants.{Carrier as carri
 use Rattle.scenario.proofs.Shapes.{rest_follow, counted_rest}
 use Rattle.scenario.proofs.parse.rest.Goals as goal
 
-pub returns-in-Some : goal.returns-in-Some
-returns-in-Some c =
+pub returns-in_default : goal.returns-in_default
+returns-in_default c =
     let other : c.args.command ≡ carrier → ⊥ = search rules in
-    let follow = MatchOption-at_some _ _ c.in-Some.ns c.in-Some.is c.in_ok-ns.ensures in
-    counted_rest _ c.args.command other c.as_slice.result.now c.counted.result (subst (Follow _) (sym c.as_slice.ensures.value) follow) c.counted.ensures
+    λ l e r. MatchOption-at_none _ _ c.in_default.is c.in_ok-numbers.ensures _ (rest_follow _ c.args.command other l e r)
 
-pub returns-in-None : goal.returns-in-None
-returns-in-None c =
+pub returns : goal.returns
+returns c =
     let other : c.args.command ≡ carrier → ⊥ = search rules in
-    λ l e r. MatchOption-at_none _ _ c.in-None.is c.in_ok-ns.ensures _ (rest_follow _ c.args.command other l e r)
+    let follow = MatchOption-at_some _ _ c.in-Some.numbers c.in-Some.is c.in_ok-numbers.ensures in
+    counted_rest _ c.args.command other c.as_slice.result.now c.counted.result (subst (Follow _) (sym c.as_slice.ensures.value) follow) c.counted.ensures

@@ -1,5 +1,0 @@
-use Rattle.std.proofs.Common.{◌≡◌, vec_items}
-use Rattle.script.proofs.words.words.Given as goal
-
-abbrev pub invariant-loop-word : goal.invariant-loop-word
-invariant-loop-word l = vec_items l.words ≡ l.yielded
