@@ -1,9 +1,11 @@
 // The letter tool: one job a line on standard input, and its answer after it.
 #![tactic(auto)]
 
-use anyhow::anyhow;
+use anyhow::bail;
 use jobs::answer::perform;
 use jobs::parse::parse;
+use program::end::ended;
+use program::help;
 use std::env;
 use std::io::{BufRead, BufReader};
 use std::process::ExitCode;
@@ -21,38 +23,24 @@ Empty lines and lines that begin with # are skipped.
 A line that is no job ends the program with status 1, its number and what was expected.";
 
 fn main(rt: HostRuntime) -> anyhow::Result<ExitCode> {
-    match run(&rt) {
-        Ok(()) => Ok(ExitCode::SUCCESS),
-        Err(e) => {
-            eprintln!(rt; "letter: {e}")?;
-            Ok(ExitCode::FAILURE)
-        }
-    }
+    ended(&rt, "letter", run(&rt))
 }
 
 fn run(rt: &HostRuntime) -> anyhow::Result<()> {
-    let mut args = env::args(rt)?;
-    let _name = args.next();
-    match args.next() {
-        None => jobs(rt),
-        Some(arg) => {
-            if arg.as_str() != "--help" && arg.as_str() != "-h" {
-                return Err(anyhow!("the only argument is --help"));
-            }
-            println!(rt; "{HELP}")?;
-            Ok(())
-        }
+    if help::is_called(env::args(rt)?.nth(1))? {
+        println!(rt; "{HELP}")?;
+        return Ok(());
     }
+    jobs(rt)
 }
 
 fn jobs(rt: &HostRuntime) -> anyhow::Result<()> {
     let heap = rt.alloc();
-    let mut number: u64 = 0;
-    for line in BufReader::new(heap, rt.stdin())?.lines(heap) {
-        number = number.saturating_add(1);
+    for (k, line) in BufReader::new(heap, rt.stdin())?.lines(heap).enumerate() {
+        let number = k.saturating_add(1);
         let line = match line {
             Ok(line) => line,
-            Err(e) => return Err(anyhow!(format!(in heap; "line {number}: {e}")?)),
+            Err(e) => bail!("line {number}: {e}"),
         };
         match parse(heap, line.as_str()) {
             Ok(None) => {}
@@ -60,7 +48,7 @@ fn jobs(rt: &HostRuntime) -> anyhow::Result<()> {
                 let answer = perform(&job);
                 println!(rt; "{line}: {answer}")?;
             }
-            Err(e) => return Err(anyhow!(format!(in heap; "line {number}: {e}")?)),
+            Err(e) => bail!("line {number}: {e}"),
         }
     }
     Ok(())

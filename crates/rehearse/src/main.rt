@@ -4,7 +4,8 @@
 mod story;
 mod subject;
 
-use anyhow::anyhow;
+use program::end::ended;
+use program::help;
 use std::env;
 use std::io::Read;
 use std::process::ExitCode;
@@ -26,28 +27,15 @@ none or a code, yes or no, still. Empty lines and lines that begin with # are sk
 A line that is no act ends the program with status 1, its number and what was expected.";
 
 fn main(rt: HostRuntime) -> anyhow::Result<ExitCode> {
-    match run(&rt) {
-        Ok(()) => Ok(ExitCode::SUCCESS),
-        Err(e) => {
-            eprintln!(rt; "rehearse: {e}")?;
-            Ok(ExitCode::FAILURE)
-        }
-    }
+    ended(&rt, "rehearse", run(&rt))
 }
 
 fn run(rt: &HostRuntime) -> anyhow::Result<()> {
-    let mut args = env::args(rt)?;
-    let _name = args.next();
-    match args.next() {
-        None => rehearse(rt),
-        Some(arg) => {
-            if arg.as_str() != "--help" && arg.as_str() != "-h" {
-                return Err(anyhow!("the only argument is --help"));
-            }
-            println!(rt; "{HELP}")?;
-            Ok(())
-        }
+    if help::is_called(env::args(rt)?.nth(1))? {
+        println!(rt; "{HELP}")?;
+        return Ok(());
     }
+    rehearse(rt)
 }
 
 fn rehearse(rt: &HostRuntime) -> anyhow::Result<()> {
