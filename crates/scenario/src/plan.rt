@@ -6,7 +6,7 @@ ghost use Rattle.scenario.specs.Plans.{Goes};
 use crate::line::Line;
 use carrier::history::{Act, Entry};
 use carrier::run::Plan;
-use roster::moves::Move;
+use roster::moves::{Move, MoveKind};
 
 // How often a settling tries every hand-over there is, at the most. What was handed over may lead to more.
 const PASSES: u64 = 16;
@@ -50,7 +50,7 @@ fn hand_over(k: u64, n: u64) -> Act {
     let n = n.max(1);
     Act::Move(Move {
         address: 0,
-        kind: 2,
+        kind: MoveKind::HandOver.into(),
         slot: k % 2 + 1,
         origin: k / 2 % n + 1,
         to: k / 2 / n % n + 1,
