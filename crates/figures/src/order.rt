@@ -63,6 +63,6 @@ impl Figure for Order {
             to: tanks % 100,
             litres: code % 1_000_000,
         };
-        if is_proper(order) { Some(order) } else { None }
+        is_proper(order).then_some(order)
     }
 }
