@@ -78,12 +78,13 @@ fn paired(heap: Global, digits: &[u8]) -> Result<Vec<u8>, AllocError>
     Ok(bytes)
 }
 
-// What a digit stands for.
+// What a digit or a letter stands for in bases up to 36, and 36 for any other byte.
 fn value(digit: u8) -> u8
-    requires { digit_value digit < 16 }
     ensures value { result ≡ digit_value digit }
 {
-    char::from(digit).to_digit(16).unwrap() as u8
+    char::from(digit)
+        .to_digit(36)
+        .map_or(36, |value| value as u8)
 }
 
 #[cfg(test)]
