@@ -3,19 +3,6 @@ use Rattle.carrier.specs.Histories.{Chosen, Ran}
 use Rattle.carrier.proofs.Kept.{Kept, kept_none, kept_next, ran_next, chosen_next}
 use Rattle.carrier.proofs.run.run.Goals as goal
 
-pub loop-k-init : goal.loop-k-init
-loop-k-init g c =
-    let v = g.C.Carrier.view c.args.carrier in
-    let untouched : v.untouched ≡ true = search rules in
-    let ok = g.C.Carrier.fresh c.args.carrier untouched in
-    let empty = sym c.new-history.ensures.items in (
-      subst (λ h. Kept v.fixed.roster h v) empty (kept_none _ v refl ((g.C.Carrier.lawful c.args.carrier ok).no_put untouched)),
-      subst (λ h. Ran v h v) empty refl,
-      ok,
-      subst (λ h. Chosen g.P.Plan.chooses c.args.plan.now [] h c.args.plan.now) empty refl,
-      c.new-history.ensures.len,
-    )
-
 pub loop-k-preserved : goal.loop-k-preserved
 loop-k-preserved g c =
     let view = g.C.Carrier.view in
@@ -33,16 +20,3 @@ loop-k-preserved g c =
       subst (λ h. Chosen g.P.Plan.chooses c.args.plan.now [] h c.next.new.self) (sym pushed) (chosen_next g.P.Plan.chooses _ _ _ c.perform-entry.result _ inv.3 chosen),
       search rules,
     )
-
--- the plan was over
-pub returns-in_default : goal.returns-in_default
-returns-in_default g c =
-    let inv = c.loop-k.invariant in
-    let over = subst (λ h. g.P.Plan.chooses c.loop-k.plan h None c.next.new.self) c.as_slice.ensures.value c.in_default.ensures in
-    record { law = inv.0.law; ran = (_, inv.1); planned = (c.loop-k.plan, inv.3, inr over); refused = tt }
-
--- as many acts as were granted
-pub returns : goal.returns
-returns g c =
-    let inv = c.loop-k.invariant in
-    record { law = inv.0.law; ran = (_, inv.1); planned = (c.loop-k.plan, inv.3, inl (search rules, refl)); refused = tt }

@@ -1,10 +1,6 @@
-use Rattle.std.proofs.Common.{arith, rules}
+use Rattle.std.proofs.Common.{arith}
 use Rattle.std.proofs.lemmas.Int.Digits.{number_more}
-use Rattle.std.proofs.lemmas.List.{take_all}
 use Rattle.wire.proofs.field.value_of.Goals as goal
 
 pub loop-byte-preserved : goal.loop-byte-preserved
 loop-byte-preserved c = omega (arith, number_more 256 c.args.content.now c.loop-byte.byte-index (omega arith))
-
-pub returns : goal.returns
-returns c = search (rules, take_all)
