@@ -1,12 +1,13 @@
 -- What the rules keep in a list of cells. Assumes nothing.
-use Rattle.std.proofs.Common.{◌≡◌, ℕ, zero, suc, ◌-◌, ◌<◌, Bool, true, cond, List, get_or, set, replicate, None, Option, sym, refl, ap, ◌∙◌, subst, inl, inr, arith}
+use Rattle.std.proofs.Common.{◌≡◌, ℕ, zero, suc, ◌<◌, Bool, true, cond, List, get_or, set, replicate, None, Option, sym, refl, ap, ◌∙◌, subst, inl, inr, arith}
 use mathlib.Core.Path.{fun_ext}
-use Rattle.std.proofs.lemmas.Bool.{cases_eq, cases_Bool, cases_lt}
-use Rattle.std.proofs.lemmas.List.{get_or-replicate, get_or_past, length-replicate}
+use Rattle.std.proofs.lemmas.Bool.{cases_eq, cases_Bool}
 use Rattle.roster.specs.Counting.{member}
 use Rattle.roster.specs.declared.roster.Roster.{Roster}
+use Rattle.roster.proofs.Voting.{blank_seat}
 use Rattle.broadcast.specs.declared.cell.Cell.{Cell}
-use Rattle.broadcast.specs.Cells.{blank, none, from, is, votes}
+use Rattle.roster.specs.Votes.{by_seat, is}
+use Rattle.broadcast.specs.Cells.{blank, none, votes}
 use Rattle.broadcast.specs.Rows.{room, fits, within, place, row}
 use Rattle.broadcast.proofs.Kept.{Good, Kept}
 use Rattle.broadcast.proofs.Rows.{row_at, row_out, row_other, row_wrote, place_low}
@@ -38,24 +39,18 @@ carried_set r cs o s p c inside fit kept step o' s' =
 -- a cell in which nothing was counted, sent or held
 pub record Empty (c : Cell) : Type 0 where
   pub no_init : c.init ≡ None
-  pub no_echo : (i : ℕ) → from c.echo i ≡ None
-  pub no_ready : (i : ℕ) → from c.ready i ≡ None
+  pub no_echo : (i : ℕ) → by_seat c.echo i ≡ None
+  pub no_ready : (i : ℕ) → by_seat c.ready i ≡ None
   pub no_put : c.put ≡ None
   pub not_echoed : c.echoed ≡ None
   pub not_readied : c.readied ≡ None
   pub not_held : c.held ≡ None
 
-same_everywhere : {A : Type 0} (m i : ℕ) (d : A) → get_or (replicate m d) i d ≡ d
-same_everywhere m i d = elim (cases_lt i m) [
-  | inl h ↦ get_or-replicate m i d d h
-  | inr h ↦ get_or_past (replicate m d) i d (rw (length-replicate m d) h)
-]
-
 pub blank_empty : Empty blank
 blank_empty = record {
   no_init = refl;
-  no_echo = λ i. same_everywhere 10 (i - 1) None;
-  no_ready = λ i. same_everywhere 10 (i - 1) None;
+  no_echo = λ i. blank_seat (replicate 10 None) 10 i refl;
+  no_ready = λ i. blank_seat (replicate 10 None) 10 i refl;
   no_put = refl;
   not_echoed = refl;
   not_readied = refl;
@@ -65,15 +60,15 @@ blank_empty = record {
 pub none_empty : Empty none
 none_empty = record { no_init = refl; no_echo = λ i. refl; no_ready = λ i. refl; no_put = refl; not_echoed = refl; not_readied = refl; not_held = refl }
 
-no_votes : (by : List (Option ℕ)) → ((i : ℕ) → from by i ≡ None) → (n v : ℕ) → votes n by v ≡ 0
+no_votes : (by : List (Option ℕ)) → ((i : ℕ) → by_seat by i ≡ None) → (n v : ℕ) → votes n by v ≡ 0
 no_votes by h zero v = refl
 no_votes by h (suc n) v = omega (arith, ap (λ o. cond {A = ℕ} (is v o) 1 0) (h (suc n)), no_votes by h n v)
 
 empty_good : (n t : ℕ) (faulty : ℕ → Bool) (x : ℕ → Cell) (o : ℕ) (c : Cell) → Empty c → Good n t faulty x o c
 empty_good n t faulty x o c e = record {
   init_sent = λ so v h. some_not_none c.init v e.no_init h;
-  echo_sent = λ q v lo sq h. some_not_none (from c.echo q) v (e.no_echo q) h;
-  ready_sent = λ q v lo sq h. some_not_none (from c.ready q) v (e.no_ready q) h;
+  echo_sent = λ q v lo sq h. some_not_none (by_seat c.echo q) v (e.no_echo q) h;
+  ready_sent = λ q v lo sq h. some_not_none (by_seat c.ready q) v (e.no_ready q) h;
   echoes_init = e.not_echoed ∙ sym e.no_init;
   echoes_served = λ v h. absurd (omega (arith, h, no_votes c.echo e.no_echo n v));
   readies_served = λ v h. absurd (omega (arith, h, no_votes c.ready e.no_ready n v));

@@ -3,7 +3,8 @@ use Rattle.std.proofs.Common.{◌≡◌, ℕ, ◌≤◌, Bool, true, not, ◌&&�
 use Rattle.roster.specs.Counting.{is_seat}
 use Rattle.roster.specs.Quorums.{echo_quorum, one_sound, ready_quorum}
 use Rattle.broadcast.specs.declared.cell.Cell.{Cell}
-use Rattle.broadcast.specs.Cells.{from, votes}
+use Rattle.roster.specs.Votes.{by_seat}
+use Rattle.broadcast.specs.Cells.{votes}
 
 module _ (n t : ℕ) (faulty : ℕ → Bool) where
   abbrev pub Sound : ℕ → Type 0
@@ -19,8 +20,8 @@ module _ (n t : ℕ) (faulty : ℕ → Bool) where
   pub record Good (x : ℕ → Cell) (o : ℕ) (c : Cell) : Type 0 where
     -- what it counted of a sound sender is what that sent
     pub init_sent : Sound o → (v : ℕ) → c.init ≡ Some v → (x o).put ≡ Some v
-    pub echo_sent : (q v : ℕ) → 1 ≤ q → Sound q → from c.echo q ≡ Some v → (x q).echoed ≡ Some v
-    pub ready_sent : (q v : ℕ) → 1 ≤ q → Sound q → from c.ready q ≡ Some v → (x q).readied ≡ Some v
+    pub echo_sent : (q v : ℕ) → 1 ≤ q → Sound q → by_seat c.echo q ≡ Some v → (x q).echoed ≡ Some v
+    pub ready_sent : (q v : ℕ) → 1 ≤ q → Sound q → by_seat c.ready q ≡ Some v → (x q).readied ≡ Some v
     pub echoes_init : c.echoed ≡ c.init
     -- a READY is sent as soon as it may be
     pub echoes_served : (v : ℕ) → echo_quorum n t ≤ votes n c.echo v → is_some c.readied ≡ true
@@ -37,5 +38,5 @@ module _ (n t : ℕ) (faulty : ℕ → Bool) where
   -- each sound receiver has counted what a sound seat sent
   pub record Quiet (x : ℕ → Cell) (o : ℕ) : Type 0 where
     pub inits : (p : ℕ) → Sound p → Sound o → is_some (x o).put ≡ true → is_some (x p).init ≡ true
-    pub echoes : (p q : ℕ) → Sound p → Sound q → is_some (x q).echoed ≡ true → is_some (from (x p).echo q) ≡ true
-    pub readies : (p q : ℕ) → Sound p → Sound q → is_some (x q).readied ≡ true → is_some (from (x p).ready q) ≡ true
+    pub echoes : (p q : ℕ) → Sound p → Sound q → is_some (x q).echoed ≡ true → is_some (by_seat (x p).echo q) ≡ true
+    pub readies : (p q : ℕ) → Sound p → Sound q → is_some (x q).readied ≡ true → is_some (by_seat (x p).ready q) ≡ true

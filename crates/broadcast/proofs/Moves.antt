@@ -1,11 +1,14 @@
 -- What a granted move says. Assumes nothing.
-use Rattle.std.proofs.Common.{◌≡◌, ℕ, ◌≤◌, Bool, true, false, not, ◌||◌, leb, List, is_some, Some, None, Ok, Err, Option, Result, sym, refl, ap, ◌∙◌, subst, inl, inr, arith}
-use Rattle.std.proofs.lemmas.Bool.{and_parts, and_from, or_cases, not-true, both_ways, eqb-true, leb-true, cond-true, cond-false}
+use Rattle.std.proofs.Common.{◌≡◌, ◌≢◌, ℕ, ◌≤◌, Bool, true, false, not, ◌||◌, leb, List, is_some, Some, None, Ok, Err, Option, Result, sym, refl, ap, ◌∙◌, subst, inl, inr, arith}
+use Rattle.std.proofs.lemmas.Bool.{and_parts, and_from, or_cases, or_from, not-true, both_ways, eqb-true, ne_eqb, leb-true, cond-true, cond-false}
 use Rattle.carrier.specs.Views.{is_slot}
 use Rattle.roster.specs.Counting.{is_seat}
 use Rattle.roster.specs.declared.denial.Denial.{Denial}
 use Rattle.roster.specs.declared.moves.Move.{Move}
+use Rattle.roster.specs.declared.moves.MoveKind.{MoveKind}
+use Rattle.roster.specs.declared.moves.MoveKind.TheVariants.{Stray, HandOver}
 use Rattle.roster.specs.declared.roster.Roster.{Roster}
+use Rattle.roster.specs.Moves.{number_of}
 use Rattle.roster.specs.Rosters.{sound}
 use Rattle.broadcast.specs.declared.cell.Cell.{Cell}
 use Rattle.broadcast.specs.declared.letter.Kind.{Kind}
@@ -33,6 +36,10 @@ pub record Due (r : Roster) (cs : List Cell) (by : Move) (l : Letter) : Type 0 w
   pub fresh : got l.kind l.sender (row r.size.n cs by.origin by.slot by.to) ≡ None
   pub own : l.kind ≡ Init → l.sender ≡ by.origin
   pub as_sent : sound r l.sender ≡ true → sent l.kind (row r.size.n cs by.origin by.slot l.sender) ≡ Some l.code
+
+-- a number that no kind of move goes by
+pub unnamed : (by : Move) → ((kind : MoveKind) → by.kind ≢ number_of kind) → (is_stray by || is_hand_over by) ≡ false
+unnamed by h = or_from (is_stray by) (is_hand_over by) (ne_eqb by.kind 1 (h Stray)) (ne_eqb by.kind 2 (h HandOver))
 
 own_origin : (k : Kind) (s o : ℕ) → from_origin k s o ≡ true → k ≡ Init → s ≡ o
 own_origin Init s o h e = eqb-true s o h

@@ -2,10 +2,11 @@
 use Rattle.std.proofs.Common.{◌≡◌, ℕ, ◌*◌, ◌<◌, ◌≤◌, Bool, true, is_some as option_is_some, Some, sym, ◌∙◌, arith}
 use Rattle.roster.specs.Counting.{count}
 use Rattle.broadcast.specs.declared.cell.Cell.{Cell}
-use Rattle.broadcast.specs.Cells.{from}
+use Rattle.roster.specs.Votes.{by_seat}
 use Rattle.broadcast.proofs.Kept.{Sound, Backed, Kept, Quiet}
 use Rattle.broadcast.proofs.Senders.{low_seat, sound_sender, shared_sender, all_said, sound_said}
-use Rattle.broadcast.proofs.Votes.{some_of, some_same, is_some}
+use Rattle.roster.proofs.Voting.{said_code}
+use Rattle.broadcast.proofs.Votes.{some_same, is_some}
 
 module _ (n t : ℕ) (faulty : ℕ → Bool) (few : count faulty n ≤ t) (third : 3 * t < n) (x : ℕ → Cell) (o : ℕ) (kept : Kept n t faulty x o) where
   abbrev S : ℕ → Type 0
@@ -44,15 +45,15 @@ module _ (n t : ℕ) (faulty : ℕ → Bool) (few : count faulty n ≤ t) (third
 
   module _ (quiet : Quiet n t faulty x o) where
     -- a READY that a sound seat sent was counted everywhere
-    ready_there : (p q v : ℕ) → S p → S q → (x q).readied ≡ Some v → from (x p).ready q ≡ Some v
+    ready_there : (p q v : ℕ) → S p → S q → (x q).readied ≡ Some v → by_seat (x p).ready q ≡ Some v
     ready_there p q v sp sq h =
-        let s = some_of (from (x p).ready q) (quiet.readies p q sp sq (is_some _ v h)) in
+        let s = said_code (by_seat (x p).ready q) (quiet.readies p q sp sq (is_some _ v h)) in
         let e = (kept p sp).ready_sent q s.0 (low_seat n t faulty q sq) sq s.1 in
         s.1 ∙ sym e ∙ h
 
-    echo_there : (p q v : ℕ) → S p → S q → (x q).echoed ≡ Some v → from (x p).echo q ≡ Some v
+    echo_there : (p q v : ℕ) → S p → S q → (x q).echoed ≡ Some v → by_seat (x p).echo q ≡ Some v
     echo_there p q v sp sq h =
-        let s = some_of (from (x p).echo q) (quiet.echoes p q sp sq (is_some _ v h)) in
+        let s = said_code (by_seat (x p).echo q) (quiet.echoes p q sp sq (is_some _ v h)) in
         let e = (kept p sp).echo_sent q s.0 (low_seat n t faulty q sq) sq s.1 in
         s.1 ∙ sym e ∙ h
 
@@ -64,26 +65,26 @@ module _ (n t : ℕ) (faulty : ℕ → Bool) (few : count faulty n ≤ t) (third
     pub spread : (p q v : ℕ) → S p → S q → (x p).held ≡ Some v → (x q).held ≡ Some v
     spread p q v sp sq h =
         let ready : (r : ℕ) → S r → (x r).readied ≡ Some v = λ r sr.
-        let s = some_of (x r).readied ((kept r sr).readies_served v
+        let s = said_code (x r).readied ((kept r sr).readies_served v
         (sound_said n t faulty (x p).ready (x r).ready v few ((kept p sp).held_why v h)
         (λ i lo si e. ready_there r i v sr si ((kept p sp).ready_sent i v lo si e)))) in
         s.1 ∙ rw (backed_same s.0 v ((kept r sr).ready_backed s.0 s.1) (held_backed p v sp h)) in
-        let s = some_of (x q).held (all_ready v ready q sq) in
+        let s = said_code (x q).held (all_ready v ready q sq) in
         s.1 ∙ rw (one q p s.0 v sq sp s.1 h)
 
     -- a sound origin's INIT was echoed by all sound seats
     all_echo : (v : ℕ) → S o → (x o).put ≡ Some v → (r : ℕ) → S r → (x r).echoed ≡ Some v
     all_echo v so h r sr =
-        let s = some_of (x r).init (quiet.inits r sr so (is_some _ v h)) in
+        let s = said_code (x r).init (quiet.inits r sr so (is_some _ v h)) in
         (kept r sr).echoes_init ∙ s.1 ∙ sym ((kept r sr).init_sent so s.0 s.1) ∙ h
 
     all_readied : (v : ℕ) → S o → (x o).put ≡ Some v → (r : ℕ) → S r → (x r).readied ≡ Some v
     all_readied v so h r sr =
-        let s = some_of (x r).readied ((kept r sr).echoes_served v
+        let s = said_code (x r).readied ((kept r sr).echoes_served v
         (omega (arith, all_said n t faulty (x r).echo v few (λ q sq. echo_there r q v sr sq (all_echo v so h q sq))))) in
         s.1 ∙ sym (backed_put s.0 so ((kept r sr).ready_backed s.0 s.1)) ∙ h
 
     pub arrived : (p v : ℕ) → S p → S o → (x o).put ≡ Some v → (x p).held ≡ Some v
     arrived p v sp so h =
-        let s = some_of (x p).held (all_ready v (all_readied v so h) p sp) in
+        let s = said_code (x p).held (all_ready v (all_readied v so h) p sp) in
         s.1 ∙ sym (from_put p s.0 sp so s.1) ∙ h

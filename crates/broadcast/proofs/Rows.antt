@@ -1,13 +1,16 @@
 -- One write changes one cell of one row. Assumes nothing.
-use Rattle.std.proofs.Common.{◌≡◌, ℕ, ◌+◌, ◌-◌, ◌*◌, ◌/◌, ◌%◌, ◌<◌, ◌≤◌, true, false, ◌&&◌, leb, List, length, get_or, set, sym, ap, ◌∙◌, inl, inr, arith}
+use Rattle.std.proofs.Common.{◌≡◌, ℕ, ◌+◌, ◌-◌, ◌*◌, ◌/◌, ◌%◌, ◌<◌, ◌≤◌, true, false, ◌&&◌, leb, List, length, get_or, set, None, sym, refl, ap, ◌∙◌, inl, inr, arith}
 use lib.Arith.{digits_lt, digits_div, digits_mod}
 use Rattle.std.proofs.lemmas.List.{get_or-set_same, get_or-set_other}
 use Rattle.std.proofs.lemmas.Bool.{and_parts, leb-true, cases_Bool, cond-true, cond-false}
 use Rattle.carrier.specs.Views.{is_slot}
 use Rattle.roster.specs.Counting.{is_seat}
 use Rattle.broadcast.specs.declared.cell.Cell.{Cell}
+use Rattle.broadcast.specs.declared.letter.Kind.{Kind}
+use Rattle.broadcast.specs.declared.letter.Kind.TheVariants.{Init, Echo, Ready}
 use Rattle.broadcast.specs.Cells.{none}
 use Rattle.broadcast.specs.Rows.{room, fits, within, place, row}
+use Rattle.broadcast.specs.Rules.{sent, got, handed}
 use Rattle.broadcast.proofs.Steps.{Wrote}
 
 -- what the test of a place says
@@ -63,6 +66,24 @@ row_at n cs o s p h = cond-true (within n p o s) _ none h
 pub row_out : (n : ℕ) (cs : List Cell) (o s p : ℕ) → within n p o s ≡ false → row n cs o s p ≡ none
 unfolding row
 row_out n cs o s p h = cond-false (within n p o s) _ none h
+
+-- where there is no cell, nothing was sent and nothing counted
+pub sent_out : (n : ℕ) (cs : List Cell) (o s p : ℕ) (k : Kind) → within n p o s ≡ false → sent k (row n cs o s p) ≡ None
+sent_out n cs o s p k h = ap (sent k) (row_out n cs o s p h) ∙ at k where
+  at : (k : Kind) → sent k none ≡ None
+  at Init = refl
+  at Echo = refl
+  at Ready = refl
+
+pub got_out : (n : ℕ) (cs : List Cell) (o s p q : ℕ) (k : Kind) → within n p o s ≡ false → got k q (row n cs o s p) ≡ None
+got_out n cs o s p q k h = ap (got k q) (row_out n cs o s p h) ∙ at k where
+  at : (k : Kind) → got k q none ≡ None
+  at Init = refl
+  at Echo = refl
+  at Ready = refl
+
+pub handed_out : (n : ℕ) (cs : List Cell) (o s p : ℕ) (d : Cell) → within n p o s ≡ false → handed p (row n cs o s p) d ≡ true
+handed_out n cs o s p d h = ap (λ c. handed p c d) (row_out n cs o s p h)
 
 module _ (n : ℕ) (cs : List Cell) (o s p : ℕ) (c : Cell) (inside : within n p o s ≡ true) where
   pub row_here : fits n cs ≡ true → row n (set cs (place n p o s) c) o s p ≡ c

@@ -7,11 +7,12 @@ use Rattle.broadcast.specs.declared.cell.Cell.{Cell}
 use Rattle.broadcast.specs.declared.letter.Kind.{Kind}
 use Rattle.broadcast.specs.declared.letter.Kind.TheVariants.{Init, Echo, Ready}
 use Rattle.broadcast.specs.declared.letter.Letter.{Letter}
-use Rattle.broadcast.specs.Cells.{from, votes, with_put}
+use Rattle.roster.specs.Votes.{by_seat}
+use Rattle.broadcast.specs.Cells.{votes, with_put}
 use Rattle.broadcast.specs.Rules.{counted, counted_by, counted_init, counted_echo, counted_ready, sent, got}
 use Rattle.broadcast.proofs.Kept.{Sound, Backed, Good, Kept}
 use Rattle.broadcast.proofs.Senders.{sound_sender}
-use Rattle.broadcast.proofs.Votes.{some_not_none, once_due, once_still, once_kept, once_why, from_more, votes_kept, votes_other}
+use Rattle.broadcast.proofs.Votes.{some_not_none, once_due, once_still, once_kept, once_why, seat_more, votes_kept, votes_other}
 
 -- one cell of a row is written
 pub record Wrote (x : ℕ → Cell) (to : ℕ) (c : Cell) (y : ℕ → Cell) : Type 0 where
@@ -91,10 +92,10 @@ module _ (n t : ℕ) (faulty : ℕ → Bool) where
       abbrev echo' : List (Option ℕ)
       echo' = set c.echo (s - 1) (Some v)
 
-      good_echo : from c.echo s ≡ None → (S s → (x s).echoed ≡ Some v) → y to ≡ counted_echo n t c echo' v → Good n t faulty y o (counted_echo n t c echo' v)
+      good_echo : by_seat c.echo s ≡ None → (S s → (x s).echoed ≡ Some v) → y to ≡ counted_echo n t c echo' v → Good n t faulty y o (counted_echo n t c echo' v)
       good_echo fresh h is = record {
         init_sent = g.init_sent;
-        echo_sent = λ q w lo' sq e. elim (from_more c.echo s v q lo' lo) [
+        echo_sent = λ q w lo' sq e. elim (seat_more c.echo s v q lo' lo) [
           | inl k ↦ g.echo_sent q w lo' sq (sym k ∙ e)
           | inr k ↦ (grows q).echoed w (subst (λ i. (x i).echoed ≡ Some w) (sym k.0) (h (subst S k.0 sq) ∙ sym k.1 ∙ e))
         ];
@@ -121,15 +122,15 @@ module _ (n t : ℕ) (faulty : ℕ → Bool) where
       abbrev ready' : List (Option ℕ)
       ready' = set c.ready (s - 1) (Some v)
 
-      ready_from : (S s → (x s).readied ≡ Some v) → ((q w : ℕ) → 1 ≤ q → S q → from c.ready q ≡ Some w → (x q).readied ≡ Some w)
-          → (q w : ℕ) → 1 ≤ q → S q → from ready' q ≡ Some w → (x q).readied ≡ Some w
-      ready_from h old q w lo' sq e = elim (from_more c.ready s v q lo' lo) [
+      ready_from : (S s → (x s).readied ≡ Some v) → ((q w : ℕ) → 1 ≤ q → S q → by_seat c.ready q ≡ Some w → (x q).readied ≡ Some w)
+          → (q w : ℕ) → 1 ≤ q → S q → by_seat ready' q ≡ Some w → (x q).readied ≡ Some w
+      ready_from h old q w lo' sq e = elim (seat_more c.ready s v q lo' lo) [
         | inl k ↦ old q w lo' sq (sym k ∙ e)
         | inr k ↦ subst (λ i. (x i).readied ≡ Some w) (sym k.0) (h (subst S k.0 sq) ∙ sym k.1 ∙ e)
       ]
 
-      good_ready : count faulty n ≤ t → Kept n t faulty x o → from c.ready s ≡ None → (S s → (x s).readied ≡ Some v)
-          → ((q w : ℕ) → 1 ≤ q → S q → from c.ready q ≡ Some w → (x q).readied ≡ Some w) → Good n t faulty y o (counted_ready n t c ready' v)
+      good_ready : count faulty n ≤ t → Kept n t faulty x o → by_seat c.ready s ≡ None → (S s → (x s).readied ≡ Some v)
+          → ((q w : ℕ) → 1 ≤ q → S q → by_seat c.ready q ≡ Some w → (x q).readied ≡ Some w) → Good n t faulty y o (counted_ready n t c ready' v)
       good_ready few kept fresh h old = record {
         init_sent = g.init_sent;
         echo_sent = g.echo_sent;

@@ -1,40 +1,27 @@
 -- What a carrier that is still says of each row. Assumes nothing.
-use Rattle.std.proofs.Common.{◌≡◌, ℕ, zero, suc, ◌+◌, ◌<◌, ◌≤◌, Bool, true, false, not, ◌&&◌, ◌||◌, leb, ◌⊎◌, List, is_some, sym, ap, ◌∙◌, subst, inl, inr, add-one, arith}
-use Rattle.std.proofs.lemmas.Bool.{false≢true, and_parts, and_from, and_right, cases_eq, cases_Bool, leb-true}
+use Rattle.std.proofs.Common.{◌≡◌, ℕ, zero, suc, ◌≤◌, Bool, true, false, not, ◌&&◌, ◌||◌, leb, ◌⊎◌, List, is_some, sym, refl, ap, ◌∙◌, subst, inl, inr, arith}
+use Rattle.std.proofs.lemmas.Bool.{false≢true, and_parts, and_cases, and_right, or_right, both_ways, cases_eq, cases_Bool, leb-true}
 use Rattle.carrier.specs.Views.{is_slot}
-use Rattle.roster.specs.Counting.{is_seat, member}
+use Rattle.roster.specs.Counting.{all, is_seat, member}
 use Rattle.roster.specs.declared.roster.Roster.{Roster}
 use Rattle.roster.specs.Rosters.{sound}
+use Rattle.roster.proofs.Seats.{all_at}
 use Rattle.broadcast.specs.declared.cell.Cell.{Cell}
 use Rattle.broadcast.specs.declared.letter.Kind.TheVariants.{Init, Echo, Ready}
 use Rattle.broadcast.specs.Cells.{none}
-use Rattle.broadcast.specs.Rows.{row}
+use Rattle.broadcast.specs.Rows.{row, within}
 use Rattle.broadcast.specs.Rules.{arrived, handed}
-use Rattle.broadcast.specs.Stills.{all, handed_from, handed_to, row_still, origin_still, still}
+use Rattle.broadcast.specs.Stills.{handed_from, handed_to, row_still, origin_still, still}
 use Rattle.broadcast.proofs.Kept.{Sound, Quiet}
-use Rattle.broadcast.proofs.Rows.{row_out}
-
-pub all_more : (p : ℕ → Bool) (n : ℕ) → true ≡ p (n + 1) → all p n ≡ true → all p (n + 1) ≡ true
-all_more p n h k = rw add-one (and_from (p (suc n)) (all p n) (subst (λ i. p i ≡ true) (add-one n) (sym h)) k)
-
-pub all_at : (p : ℕ → Bool) (n i : ℕ) → 1 ≤ i → i ≤ n → all p n ≡ true → p i ≡ true
-all_at p zero i lo hi h = absurd (omega arith)
-all_at p (suc n) i lo hi h =
-    let k = and_parts (p (suc n)) (all p n) h in
-    elim (cases_eq i (suc n)) [ inl e ↦ subst (λ j. p j ≡ true) (sym e) k.0 | inr ne ↦ all_at p n i lo (omega arith) k.1 ]
-
-pub all_not : (p : ℕ → Bool) (n i : ℕ) → i < n → false ≡ p (i + 1) → false ≡ all p n
-all_not p n i hi h = elim (cases_Bool (all p n)) [
-  | inr e ↦ sym e
-  | inl e ↦ absurd (false≢true (h ∙ all_at p n (i + 1) (omega arith) (omega arith) e))
-]
-
-pub all_end : (p : ℕ → Bool) (n i : ℕ) → i ≤ n → n ≤ i → all p i ≡ true → true ≡ all p n
-all_end p n i a b h = let e : i ≡ n = omega arith in subst (λ j. true ≡ all p j) e (sym h)
+use Rattle.broadcast.proofs.Rows.{row_out, handed_out}
 
 implied : (a b : Bool) → (not a || b) ≡ true → a ≡ true → b ≡ true
 implied true b h e = h
 implied false b h e = absurd (false≢true e)
+
+all_true : (p : ℕ → Bool) (n : ℕ) → ((i : ℕ) → p i ≡ true) → all p n ≡ true
+all_true p zero h = refl
+all_true p (suc n) h = rw (h (suc n)) (all_true p n h)
 
 module _ (r : Roster) where
   abbrev n : ℕ
@@ -72,6 +59,16 @@ module _ (r : Roster) where
     echoes = λ p q sp sq h. absurd (false≢true (sym (ap (λ (c : Cell). is_some c.echoed) (e q)) ∙ h));
     readies = λ p q sp sq h. absurd (false≢true (sym (ap (λ (c : Cell). is_some c.readied) (e q)) ∙ h));
   }
+
+  -- where a sound receiver has no cell, nothing was sent
+  pub served_out : (cs : List Cell) (o s p : ℕ) → within n p o s ≡ false → sound r p ≡ true → all (handed_from r (row n cs o s) p) n ≡ true
+  served_out cs o s p out sp =
+      let outside : (is_seat n o && is_slot s) ≡ false = elim (and_cases (is_seat n p) (is_seat n o && is_slot s) out) [
+        | inl e ↦ absurd (both_ways (is_seat n p) e (and_parts (is_seat n p) _ sp).0)
+        | inr e ↦ e
+      ] in
+      all_true (handed_from r (row n cs o s) p) n (λ i.
+      or_right (not (sound r i)) _ (handed_out n cs o s i (row n cs o s p) (and_right (is_seat n i) _ outside)))
 
   slot_cases : (s : ℕ) → is_slot s ≡ true → (s ≡ 1) ⊎ (s ≡ 2)
   slot_cases s h =

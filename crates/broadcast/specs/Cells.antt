@@ -1,6 +1,6 @@
 -- What stands in a cell. Assumes nothing.
-use Rattle.std.specs.Prelude.{ℕ, ◌-◌, Bool, false, cond, List, [], replicate, Some, None, Option, ◌==◌, slice_index_or}
-use Rattle.roster.specs.Counting.{count}
+use Rattle.std.specs.Prelude.{ℕ, Bool, cond, List, [], replicate, Some, None, Option}
+use Rattle.roster.specs.Votes.{by_seat, is, votes as seat_votes}
 use Rattle.broadcast.specs.declared.cell.Cell.{Cell}
 
 -- nothing counted, sent or held
@@ -11,20 +11,13 @@ blank = record { init = None; echo = replicate 10 None; ready = replicate 10 Non
 abbrev pub none : Cell
 none = record { init = None; echo = []; ready = []; put = None; echoed = None; readied = None; held = None }
 
--- the code counted of a sender: seat k stands at index k - 1
-abbrev pub from : List (Option ℕ) → ℕ → Option ℕ
-from by sender = slice_index_or by (sender - 1) None
-
-abbrev pub is : ℕ → Option ℕ → Bool
-is v None = false
-is v (Some w) = w == v
-
+-- a list said v of a sender: seat k stands at index k - 1
 abbrev pub said : List (Option ℕ) → ℕ → ℕ → Bool
-said by v sender = is v (from by sender)
+said by v sender = is v (by_seat by sender)
 
 -- how many of the seats 1 to n said v
 abbrev pub votes : ℕ → List (Option ℕ) → ℕ → ℕ
-votes n by v = count (said by v) n
+votes n by v = seat_votes n (by_seat by) v
 
 -- what is sent or held once stays; else it is v, where that is due
 abbrev pub once : Option ℕ → Bool → ℕ → Option ℕ

@@ -5,7 +5,8 @@ use Rattle.broadcast.specs.declared.cell.Cell.{Cell}
 use Rattle.broadcast.specs.declared.letter.Kind.{Kind}
 use Rattle.broadcast.specs.declared.letter.Kind.TheVariants.{Init, Echo, Ready}
 use Rattle.broadcast.specs.declared.letter.Letter.{Letter}
-use Rattle.broadcast.specs.Cells.{from, once, votes}
+use Rattle.roster.specs.Votes.{by_seat}
+use Rattle.broadcast.specs.Cells.{once, votes}
 
 -- INIT v: ECHO v is sent
 abbrev pub counted_init : Cell → ℕ → Cell
@@ -54,8 +55,8 @@ sent Ready c = c.readied
 -- the letter of a kind that the seat of this cell counted of a sender
 abbrev pub got : Kind → ℕ → Cell → Option ℕ
 got Init sender c = c.init
-got Echo sender c = from c.echo sender
-got Ready sender c = from c.ready sender
+got Echo sender c = by_seat c.echo sender
+got Ready sender c = by_seat c.ready sender
 
 -- what the sender sent of a kind was counted by the receiver
 abbrev pub arrived : Kind → ℕ → Cell → Cell → Bool

@@ -1,16 +1,12 @@
 -- When nothing is on its way: all that sound seats sent has been counted by all sound seats. That one was counted is enough to
 -- ask, since it is the one that was sent. Assumes nothing.
-use Rattle.std.specs.Prelude.{ℕ, zero, suc, Bool, true, not, ◌&&◌, ◌||◌, List}
+use Rattle.std.specs.Prelude.{ℕ, Bool, not, ◌&&◌, ◌||◌, List}
+use Rattle.roster.specs.Counting.{all}
 use Rattle.roster.specs.declared.roster.Roster.{Roster}
 use Rattle.roster.specs.Rosters.{sound}
 use Rattle.broadcast.specs.declared.cell.Cell.{Cell}
 use Rattle.broadcast.specs.Rows.{row}
 use Rattle.broadcast.specs.Rules.{handed}
-
--- all of the seats 1 to n have p
-abbrev pub all : (ℕ → Bool) → ℕ → Bool
-all p zero = true
-all p (suc n) = p (suc n) && all p n
 
 module _ (r : Roster) (x : ℕ → Cell) where
   -- what a sender sent, if it is sound

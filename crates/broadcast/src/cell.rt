@@ -1,6 +1,6 @@
 // What one seat, the receiver, counted, sent and holds for one origin and slot.
 
-#[derive(Clone, Copy)]
+#[derive(Clone, Copy, PartialEq, Eq, Debug)]
 pub struct Cell {
     // the INIT that it counted, which only the origin sends
     pub init: Option<u64>,

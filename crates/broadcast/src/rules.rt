@@ -1,45 +1,21 @@
 // What a sound seat does. The rules take a size and a cell, never a roster: no sound seat knows which others are faulty.
 ghost use Rattle.std.specs.Prelude.{◌≡◌, ◌-◌, Some, slice_set};
-ghost use Rattle.broadcast.specs.Cells.{is, once, votes};
+ghost use Rattle.broadcast.specs.Cells.{once};
 ghost use Rattle.broadcast.specs.Rules.{counted, counted_echo, counted_init, counted_ready};
 
 use crate::cell::Cell;
 use crate::letter::{Kind, Letter};
 use roster::size::Size;
+use roster::votes::count_votes;
 
-// With one more counted.
-fn with_sender(by: [Option<u64>; 10], sender: u64, code: u64) -> [Option<u64>; 10]
-    ensures { result ≡ slice_set by (sender - 1) (Some code) }
+// One more is counted.
+fn record(by: &mut [Option<u64>; 10], sender: u64, code: u64)
+    ensures { by.new ≡ slice_set by.old (sender - 1) (Some code) }
 {
     let i = sender.saturating_sub(1);
-    let mut next = by;
     if i < 10 {
-        next[i as usize] = Some(code);
+        by[i as usize] = Some(code);
     }
-    next
-}
-
-fn is_code(said: Option<u64>, code: u64) -> bool
-    ensures { result ≡ is code said }
-{
-    match said {
-        Some(other) => other == code,
-        None => false,
-    }
-}
-
-// How many senders said a code.
-fn count_votes(size: Size, by: &[Option<u64>; 10], code: u64) -> u64
-    ensures { result ≡ votes size.n by.now code }
-{
-    let n = size.n();
-    let mut sum = 0;
-    for i in 0..n {
-        if is_code(by[i as usize], code) {
-            sum += 1;
-        }
-    }
-    sum
 }
 
 // What is sent or held once stays; else it is the code, where that is due.
@@ -52,54 +28,39 @@ fn only_once(before: Option<u64>, due: bool, code: u64) -> Option<u64>
     }
 }
 
-fn count_init(cell: Cell, code: u64) -> Cell
-    ensures { result ≡ counted_init cell code }
-{
-    let mut next = cell;
-    next.init = Some(code);
-    next.echoed = Some(code);
-    next
-}
+impl Cell {
+    fn count_init(&mut self, code: u64)
+        ensures { self.new ≡ counted_init self.old code }
+    {
+        self.init = Some(code);
+        self.echoed = Some(code);
+    }
 
-// With the ECHOs counted now.
-fn count_echo(size: Size, cell: Cell, echo: [Option<u64>; 10], code: u64) -> Cell
-    ensures { result ≡ counted_echo size.n size.t cell echo code }
-{
-    let quorum = count_votes(size, &echo, code) >= size.echo_quorum();
-    let readied = only_once(cell.readied, quorum, code);
-    let mut next = cell;
-    next.echo = echo;
-    next.readied = readied;
-    next
-}
+    fn count_echo(&mut self, size: Size, sender: u64, code: u64)
+        ensures { self.new ≡ counted_echo size.n size.t self.old (slice_set self.old.echo (sender - 1) (Some code)) code }
+    {
+        record(&mut self.echo, sender, code);
+        let quorum = count_votes(size, &self.echo, code) >= size.echo_quorum();
+        self.readied = only_once(self.readied, quorum, code);
+    }
 
-// With the READYs counted now.
-fn count_ready(size: Size, cell: Cell, ready: [Option<u64>; 10], code: u64) -> Cell
-    ensures { result ≡ counted_ready size.n size.t cell ready code }
-{
-    let votes = count_votes(size, &ready, code);
-    let readied = only_once(cell.readied, votes >= size.one_sound(), code);
-    let held = only_once(cell.held, votes >= size.ready_quorum(), code);
-    let mut next = cell;
-    next.ready = ready;
-    next.readied = readied;
-    next.held = held;
-    next
-}
+    fn count_ready(&mut self, size: Size, sender: u64, code: u64)
+        ensures { self.new ≡ counted_ready size.n size.t self.old (slice_set self.old.ready (sender - 1) (Some code)) code }
+    {
+        record(&mut self.ready, sender, code);
+        let votes = count_votes(size, &self.ready, code);
+        self.readied = only_once(self.readied, votes >= size.one_sound(), code);
+        self.held = only_once(self.held, votes >= size.ready_quorum(), code);
+    }
 
-// The cell after its seat counts a letter.
-pub fn count(size: Size, cell: Cell, letter: Letter) -> Cell
-    ensures { result ≡ counted size.n size.t letter cell }
-{
-    match letter.kind {
-        Kind::Init => count_init(cell, letter.code),
-        Kind::Echo => {
-            let echo = with_sender(cell.echo, letter.sender, letter.code);
-            count_echo(size, cell, echo, letter.code)
-        }
-        Kind::Ready => {
-            let ready = with_sender(cell.ready, letter.sender, letter.code);
-            count_ready(size, cell, ready, letter.code)
+    // Its seat counts a letter, and does what the rules ask.
+    pub fn count(&mut self, size: Size, letter: Letter)
+        ensures { self.new ≡ counted size.n size.t letter self.old }
+    {
+        match letter.kind {
+            Kind::Init => self.count_init(letter.code),
+            Kind::Echo => self.count_echo(size, letter.sender, letter.code),
+            Kind::Ready => self.count_ready(size, letter.sender, letter.code),
         }
     }
 }

@@ -1,2 +1,3 @@
 pub mod Meanings
+pub mod Rows
 pub mod Steps

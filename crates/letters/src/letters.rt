@@ -15,7 +15,8 @@ pub struct Letters<'a> {
 }
 
 pub mod carry;
-mod cells;
 mod due;
 pub mod make;
+mod places;
+mod rows;
 mod stillness;

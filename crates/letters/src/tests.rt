@@ -3,7 +3,7 @@ use crate::letters::Letters;
 use broadcast::cell::Cell;
 use carrier::carrier::Carrier;
 use roster::denial::Denial;
-use roster::moves::Move;
+use roster::moves::{Move, MoveKind};
 use roster::roster::Roster;
 use std::test::Fail;
 
@@ -17,7 +17,7 @@ const READY: u64 = 3;
 fn handed(from: u64, to: u64, letter: u64, origin: u64) -> Move {
     Move {
         address: 0,
-        kind: 2,
+        kind: MoveKind::HandOver.into(),
         from,
         to,
         letter,
@@ -31,7 +31,7 @@ fn handed(from: u64, to: u64, letter: u64, origin: u64) -> Move {
 fn stray(from: u64, to: u64, letter: u64, origin: u64, code: u64) -> Move {
     Move {
         address: 0,
-        kind: 1,
+        kind: MoveKind::Stray.into(),
         from,
         to,
         letter,
@@ -48,6 +48,13 @@ fn hand_all(letters: &mut Letters<'_>, letter: u64, origin: u64) {
             let _ = letters.step(handed(from, to, letter, origin));
         }
     }
+}
+
+// A cell that is not blank.
+fn marked() -> Cell {
+    let mut cell = Cell::blank();
+    cell.send_init(9);
+    cell
 }
 
 #[test]
@@ -109,8 +116,7 @@ fn two_inits_of_a_faulty_seat_give_one_code(rt: HostRuntime) -> Result<(), Fail>
 
 #[test]
 fn a_list_one_cell_short_is_left_alone(rt: HostRuntime) -> Result<(), Fail> {
-    let marked: Cell = Cell::blank().with_put(9);
-    let mut cells = [marked; 31];
+    let mut cells = [marked(); 31];
     let mut letters = Letters::new(Roster::new(4, 1, 0)?, &mut cells);
     assert!(rt; !letters.is_matched());
     assert_eq!(rt; letters.put(1, 1, 7), Err(Denial::IllMatched));
@@ -126,8 +132,7 @@ fn a_list_one_cell_short_is_left_alone(rt: HostRuntime) -> Result<(), Fail> {
 
 #[test]
 fn a_cell_beyond_those_needed_is_left_alone(rt: HostRuntime) -> Result<(), Fail> {
-    let marked: Cell = Cell::blank().with_put(9);
-    let mut cells = [marked; 33];
+    let mut cells = [marked(); 33];
     let mut letters = Letters::new(Roster::new(4, 1, 0)?, &mut cells);
     letters.put(4, 2, 7)?;
     assert_eq!(rt; cells[31].put, Some(7));

@@ -2,7 +2,7 @@
 use broadcast::cell::Cell;
 use carrier::carrier::Carrier;
 use letters::letters::Letters;
-use roster::moves::Move;
+use roster::moves::{Move, MoveKind};
 use roster::roster::Roster;
 
 // As many cells as the largest roster needs.
@@ -62,7 +62,7 @@ fn hand(letters: &mut Letters<'_>, n: u64, letter: u64, from: u64, to: u64) -> u
         for slot in 1..3 {
             let by = Move {
                 address: 0,
-                kind: 2,
+                kind: MoveKind::HandOver.into(),
                 from,
                 to,
                 letter,

@@ -9,47 +9,10 @@ ghost use Rattle.roster.specs.Checks.{answer};
 ghost use Rattle.roster.specs.declared.denial.Denial.TheVariants.{IllMatched};
 
 use crate::letters::Letters;
-use crate::letters::cells::place_of;
-use broadcast::rules::count;
 use carrier::carrier::Carrier;
 use roster::denial::Denial;
 use roster::moves::Move;
 use roster::roster::Roster;
-
-impl Letters<'_> {
-    fn put_denied(&self, seat: u64, slot: u64) -> Option<Denial>
-        ensures { result ≡ put_denial (view_of self.now) seat slot }
-    {
-        if !self.has_room() {
-            return Some(Denial::IllMatched);
-        }
-        if !self.is_within(seat, seat, slot) {
-            return Some(Denial::OutOfRange);
-        }
-        if !self.roster.is_sound(seat) {
-            return Some(Denial::FaultySeat);
-        }
-        if self.cell(seat, seat, slot).put.is_some() {
-            return Some(Denial::PutBefore);
-        }
-        None
-    }
-
-    fn holds_denied(&self, seat: u64, origin: u64, slot: u64) -> Option<Denial>
-        ensures { result ≡ holds_denial (view_of self.now).fixed seat origin slot }
-    {
-        if !self.has_room() {
-            return Some(Denial::IllMatched);
-        }
-        if !self.is_within(seat, origin, slot) {
-            return Some(Denial::OutOfRange);
-        }
-        if !self.roster.is_sound(seat) {
-            return Some(Denial::FaultySeat);
-        }
-        None
-    }
-}
 
 impl Carrier for Letters<'_> {
     ghost view = { λ s. meaning s.roster s.cells.now s.touched };
@@ -71,13 +34,15 @@ impl Carrier for Letters<'_> {
         ensures cells { is_ok result ≡ true → cells_of self.new ≡ after_put self.old seat slot code }
         ensures name { self.new.cells.ghost_name ≡ self.old.cells.ghost_name }
     {
-        if let Some(denial) = self.put_denied(seat, slot) {
-            return Err(denial);
+        let rows = self.rows()?;
+        rows.check(seat, seat, slot)?;
+        let i = rows.place_of(seat, seat, slot);
+        if rows.cells[i].put.is_some() {
+            return Err(Denial::PutBefore);
         }
-        let i = place_of(self.roster.size(), seat, seat, slot);
-        let next = self.cells[i].with_put(code);
-        self.cells[i] = next;
         self.touched = true;
+        let cells = &mut *self.cells;
+        cells[i].send_init(code);
         Ok(())
     }
 
@@ -92,23 +57,24 @@ impl Carrier for Letters<'_> {
         ensures cells { cells_of self.new ≡ after_move self.old by (due_in self.old by) }
         ensures name { self.new.cells.ghost_name ≡ self.old.cells.ghost_name }
     {
-        let letter = self.letter_due(by)?;
-        let i = place_of(self.roster.size(), by.to, by.origin, by.slot);
-        let next = count(self.roster.size(), self.cells[i], letter);
-        self.cells[i] = next;
+        let rows = self.rows()?;
+        let letter = rows.letter_due(by)?;
+        let i = rows.place_of(by.to, by.origin, by.slot);
         self.touched = true;
+        let size = self.roster.size();
+        let cells = &mut *self.cells;
+        cells[i].count(size, letter);
         Ok(())
     }
 
     fn holds(&self, seat: u64, origin: u64, slot: u64) -> Result<Option<u64>, Denial> {
-        if let Some(denial) = self.holds_denied(seat, origin, slot) {
-            return Err(denial);
-        }
-        Ok(self.cell(seat, origin, slot).held)
+        let rows = self.rows()?;
+        rows.check(seat, origin, slot)?;
+        Ok(rows.cells[rows.place_of(seat, origin, slot)].held)
     }
 
     fn is_still(&self) -> bool {
-        self.has_room() && self.is_quiet()
+        self.rows().is_ok_and(|rows| rows.is_quiet())
     }
 
     fn roster(&self) -> Roster {

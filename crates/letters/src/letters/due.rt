@@ -1,18 +1,19 @@
 // Which letter a move has the receiver count: the checks in their order.
-ghost use Rattle.std.specs.Prelude.{◌≡◌, true};
-ghost use Rattle.broadcast.specs.Moves.{due_of, from_origin, in_range, seats_fit, told, unless_counted};
-ghost use Rattle.letters.specs.Meanings.{cells_of, due_in, has_room};
+ghost use Rattle.std.specs.Prelude.{◌≡◌, is_some};
+ghost use Rattle.broadcast.specs.Moves.{due, due_of, from_origin, in_range, is_stray, receiver, seats_fit, told};
+ghost use Rattle.broadcast.specs.Rules.{got};
 
-use crate::letters::Letters;
-use crate::letters::cells::is_slot;
+use crate::letters::rows::Rows;
 use broadcast::letter::{Kind, Letter};
+use carrier::slot::is_slot;
 use roster::denial::Denial;
-use roster::moves::Move;
+use roster::moves::{Move, MoveKind};
 
-// The kinds of moves: a stray letter of a faulty seat, and a letter handed over.
-const STRAY: u64 = 1;
-
-const HAND_OVER: u64 = 2;
+fn is_stray(by: Move) -> bool
+    ensures { result ≡ is_stray by }
+{
+    by.kind == u64::from(MoveKind::Stray)
+}
 
 // Only an INIT has to come from its origin.
 fn is_from_origin(kind: Kind, sender: u64, origin: u64) -> bool
@@ -24,7 +25,7 @@ fn is_from_origin(kind: Kind, sender: u64, origin: u64) -> bool
     }
 }
 
-impl Letters<'_> {
+impl Rows<'_> {
     fn is_in_range(&self, by: Move, kind: Kind) -> bool
         ensures { result ≡ in_range self.now.roster.size.n kind by }
     {
@@ -39,34 +40,40 @@ impl Letters<'_> {
     fn has_fit_seats(&self, by: Move) -> bool
         ensures { result ≡ seats_fit self.now.roster by }
     {
-        self.roster.is_sound(by.to) && (by.kind != STRAY || !self.roster.is_sound(by.from))
+        self.roster.is_sound(by.to) && (!is_stray(by) || !self.roster.is_sound(by.from))
     }
 
     // The code that the letter has: as stated in a stray one, else as sent. A faulty seat has sent none.
     fn told_code(&self, by: Move, kind: Kind) -> Option<u64>
-        requires inside { in_range self.now.roster.size.n kind by ≡ true }
-        requires fit { has_room self.now ≡ true }
-        ensures { result ≡ told self.now.roster (cells_of self.now) by kind }
+        ensures { result ≡ told self.now.roster self.now.cells.now by kind }
     {
-        if by.kind == STRAY {
+        if is_stray(by) {
             return Some(by.code);
         }
         if !self.roster.is_sound(by.from) {
             return None;
         }
-        self.cell(by.from, by.origin, by.slot).sent(kind)
+        self.cell(by.from, by.origin, by.slot)?.sent(kind)
     }
 
-    fn letter_told(&self, by: Move, kind: Kind, said: Option<u64>) -> Result<Letter, Denial>
-        requires inside { in_range self.now.roster.size.n kind by ≡ true }
-        requires fit { has_room self.now ≡ true }
-        ensures { result ≡ unless_counted self.now.roster (cells_of self.now) by kind said }
+    // What the receiver has counted before.
+    fn counted_code(&self, by: Move, kind: Kind) -> Option<u64>
+        ensures { result ≡ got kind by.from (receiver self.now.roster self.now.cells.now by) }
     {
-        let Some(code) = said else {
-            return Err(Denial::NothingDue);
-        };
-        let here = self.cell(by.to, by.origin, by.slot);
-        if here.counted(kind, by.from).is_some() {
+        self.cell(by.to, by.origin, by.slot)?.counted(kind, by.from)
+    }
+
+    fn letter_of(&self, by: Move, kind: Kind) -> Result<Letter, Denial>
+        ensures { result ≡ due_of self.now.roster self.now.cells.now by kind }
+    {
+        if !self.is_in_range(by, kind) {
+            return Err(Denial::OutOfRange);
+        }
+        if !self.has_fit_seats(by) {
+            return Err(Denial::FaultySeat);
+        }
+        let code = self.told_code(by, kind).ok_or(Denial::NothingDue)?;
+        if self.counted_code(by, kind).is_some() {
             return Err(Denial::HandedBefore);
         }
         Ok(Letter {
@@ -76,32 +83,14 @@ impl Letters<'_> {
         })
     }
 
-    fn letter_of(&self, by: Move, kind: Kind) -> Result<Letter, Denial>
-        requires { has_room self.now ≡ true }
-        ensures { result ≡ due_of self.now.roster (cells_of self.now) by kind }
-    {
-        if !self.is_in_range(by, kind) {
-            return Err(Denial::OutOfRange);
-        }
-        if !self.has_fit_seats(by) {
-            return Err(Denial::FaultySeat);
-        }
-        self.letter_told(by, kind, self.told_code(by, kind))
-    }
-
     // The letter that a move has its receiver count, or why it is denied.
     pub(super) fn letter_due(&self, by: Move) -> Result<Letter, Denial>
-        ensures { result ≡ due_in self.now by }
+        ensures { result ≡ due self.now.roster self.now.cells.now by }
     {
-        if !self.has_room() {
-            return Err(Denial::IllMatched);
+        match MoveKind::try_from(by.kind)? {
+            MoveKind::Stray | MoveKind::HandOver => {}
+            MoveKind::Wake => return Err(Denial::NoSuchAddress),
         }
-        if by.kind != STRAY && by.kind != HAND_OVER {
-            return Err(Denial::NoSuchAddress);
-        }
-        match Kind::numbered(by.letter) {
-            Some(kind) => self.letter_of(by, kind),
-            None => Err(Denial::OutOfRange),
-        }
+        self.letter_of(by, Kind::try_from(by.letter)?)
     }
 }

@@ -1,6 +1,5 @@
 // Making a carrier of letters.
-ghost use Rattle.std.specs.Prelude.{◌≡◌, ◌≤◌, false, ◌++◌, length, drop, replicate};
-ghost use Rattle.broadcast.specs.Cells.{blank};
+ghost use Rattle.std.specs.Prelude.{◌≡◌, false};
 ghost use Rattle.broadcast.specs.Meanings.{Clear, cleared};
 ghost use Rattle.broadcast.specs.Rows.{room};
 
@@ -17,15 +16,6 @@ pub fn cells_needed(size: Size) -> usize
     2 * n * n
 }
 
-fn clear_front(cells: &mut [Cell], count: usize)
-    requires { count ≤ length cells.old }
-    ensures { cells.new ≡ replicate count blank ++ drop count cells.old }
-{
-    for i in 0..count {
-        cells[i] = Cell::blank();
-    }
-}
-
 // A list that is too short is left as it is.
 fn clear(cells: &mut [Cell], size: Size)
     ensures after { cells.new ≡ cleared size.n cells.old }
@@ -33,7 +23,7 @@ fn clear(cells: &mut [Cell], size: Size)
 {
     let count = cells_needed(size);
     if count <= cells.len() {
-        clear_front(cells, count);
+        cells[..count].fill(Cell::blank());
     }
 }
 

@@ -1,21 +1,38 @@
-use Rattle.std.proofs.Common.{◌≡◌, refl, ap, ◌∙◌}
+use Rattle.std.proofs.Common.{◌≡◌, true, None, sym, refl, subst, rules}
 use Rattle.std.proofs.lemmas.Bool.{true≢false}
-use Rattle.roster.specs.Checks.{answer}
-use Rattle.roster.specs.declared.size.Size.{Size}
-use Rattle.broadcast.specs.Rows.{place}
-use Rattle.letters.proofs.Granted.{put_cells, put_after, put_kept}
+use Rattle.carrier.specs.Views.{Put}
+use Rattle.broadcast.specs.Cells.{with_put}
+use Rattle.broadcast.specs.Meanings.{meaning}
+use Rattle.broadcast.specs.Rows.{fits, within, row}
+use Rattle.broadcast.proofs.Effects.{put_effect, put_keeps}
+use Rattle.broadcast.proofs.Laws as laws
+use Rattle.broadcast.proofs.Rows.{row_at}
+use Rattle.letters.proofs.Granted.{written}
 use Rattle.letters.proofs.letters.carry.LettersCarrier.put.Goals as goal
+
+pub returns-then-is_some-clause-value : goal.returns-then-is_some-clause-value
+returns-then-is_some-clause-value c =
+    let s = c.args.self.now in
+    let at = row_at s.roster.size.n s.cells.now c.args.seat c.args.slot c.args.seat (search rules) in
+    search rules
 
 pub returns : goal.returns
 returns c =
     let s = c.args.self.now in
-    let at : c.place_of-i.result ≡ place s.roster.size.n c.args.seat c.args.seat c.args.slot
-    = c.place_of-i.ensures.value ∙ ap (λ (z : Size). place z.n c.args.seat c.args.seat c.args.slot) c.size.ensures in
+    let n = s.roster.size.n in
+    let seat = c.args.seat in
+    let slot = c.args.slot in
+    let fit : fits n s.cells.now ≡ true = search rules in
+    let inside : within n seat seat slot ≡ true = search rules in
+    let at = row_at n s.cells.now seat slot seat inside in
+    let fresh : (row n s.cells.now seat slot seat).put ≡ None = search rules in
+    let cells = written n s.cells.now seat seat slot _ (λ d. with_put d c.args.code) _ inside (search rules) c.send_init.ensures in
     record {
-      value = ap (λ d. answer {A = Unit {0}} d tt) c.in_default.ensures;
+      value = search rules;
       same = λ e. absurd (true≢false e);
-      after = λ _. put_after s.roster s.cells.now s.touched c.args.seat c.args.slot c.args.code c.in_default.ensures _ _ at c.with_put-next.ensures;
-      keeps = put_kept s.roster s.cells.now s.touched c.args.seat c.args.slot c.args.code c.in_default.ensures _ _ at c.with_put-next.ensures;
-      cells = λ _. put_cells s.roster s.cells.now s.touched c.args.seat c.args.slot c.args.code c.in_default.ensures _ _ at c.with_put-next.ensures;
+      after = λ _. subst (λ ds. Put (meaning s.roster s.cells.now s.touched) seat slot c.args.code (meaning s.roster ds true)) (sym cells)
+          (put_effect s.roster s.cells.now s.touched seat slot c.args.code inside fit);
+      keeps = λ ok. subst (laws.Invariant s.roster) (sym cells) (put_keeps s.roster s.cells.now s.touched seat slot c.args.code inside fit fresh ok);
+      cells = λ _. cells;
       name = refl;
     }
