@@ -67,6 +67,7 @@ impl Carrier for Letters<'_> {
         Ok(())
     }
 
+    #[tactic(auto, using(broadcast::proofs::Rows::row_at))]
     fn holds(&self, seat: u64, origin: u64, slot: u64) -> Result<Option<u64>, Denial> {
         let rows = self.rows()?;
         rows.check(seat, origin, slot)?;

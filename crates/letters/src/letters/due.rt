@@ -44,6 +44,7 @@ impl Rows<'_> {
     }
 
     // The code that the letter has: as stated in a stray one, else as sent. A faulty seat has sent none.
+    #[tactic(auto, using(broadcast::proofs::Rows::sent_out))]
     fn told_code(&self, by: Move, kind: Kind) -> Option<u64>
         ensures { result ≡ told self.now.roster self.now.cells.now by kind }
     {
@@ -57,6 +58,7 @@ impl Rows<'_> {
     }
 
     // What the receiver has counted before.
+    #[tactic(auto, using(broadcast::proofs::Rows::got_out))]
     fn counted_code(&self, by: Move, kind: Kind) -> Option<u64>
         ensures { result ≡ got kind by.from (receiver self.now.roster self.now.cells.now by) }
     {

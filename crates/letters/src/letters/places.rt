@@ -31,6 +31,7 @@ impl Rows<'_> {
     }
 
     // What the receiver counted, sent and holds of an origin and slot.
+    #[tactic(auto, using(broadcast::proofs::Rows::row_at))]
     pub(super) fn cell(&self, receiver: u64, origin: u64, slot: u64) -> Option<&Cell>
         ensures { MatchOption result (within self.now.roster.size.n receiver origin slot ≡ false) (λ c. (within self.now.roster.size.n receiver origin slot ≡ true) × (c.now ≡ row_in self.now origin slot receiver)) }
     {

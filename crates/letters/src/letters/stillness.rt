@@ -10,6 +10,7 @@ use broadcast::cell::Cell;
 
 impl Rows<'_> {
     // Whether all that a sender sent, if it is sound, was counted in the receiver's cell.
+    #[tactic(auto, using(broadcast::proofs::Rows::handed_out))]
     fn is_handed(&self, here: &Cell, sender: u64, origin: u64, slot: u64) -> bool
         ensures { result ≡ (not (sound self.now.roster sender) || handed sender (row_in self.now origin slot sender) here.now) }
     {
