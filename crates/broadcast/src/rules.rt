@@ -9,6 +9,7 @@ use roster::size::Size;
 use roster::votes::count_votes;
 
 // One more is counted.
+#[tactic(auto, using(std::proofs::lemmas::List::set_past))]
 fn record(by: &mut [Option<u64>; 10], sender: u64, code: u64)
     ensures { by.new ≡ slice_set by.old (sender - 1) (Some code) }
 {

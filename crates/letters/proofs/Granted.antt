@@ -1,13 +1,9 @@
 -- One cell is written in place. Assumes nothing.
-use Rattle.std.proofs.Common.{◌≡◌, ℕ, ◌<◌, true, List, length, get_or, set, sym, ap, ◌∙◌, ap₂, arith}
-use Rattle.std.proofs.lemmas.Bool.{leb-true}
+use Rattle.std.proofs.Common.{◌≡◌, ℕ, true, List, get_or, set, sym, ap, ◌∙◌, ap₂}
 use Rattle.broadcast.specs.declared.cell.Cell.{Cell}
 use Rattle.broadcast.specs.Cells.{none}
-use Rattle.broadcast.specs.Rows.{room, fits, within, place, row}
+use Rattle.broadcast.specs.Rows.{within, place, row}
 use Rattle.broadcast.proofs.Rows.{row_at}
-
-pub below_list : (n i : ℕ) (cs : List Cell) → fits n cs ≡ true → i < room n → i < length cs
-below_list n i cs fit h = omega (arith, leb-true (room n) (length cs) fit)
 
 -- the cell that the code reads and writes is that of its row
 pub written : (n : ℕ) (cs : List Cell) (p o s i : ℕ) (f : Cell → Cell) (next : Cell) → within n p o s ≡ true → i ≡ place n p o s → next ≡ f (get_or cs i none)

@@ -26,7 +26,7 @@ fn play_round(roster: Roster, cells: &mut [Cell]) -> u64 {
     let n = roster.size().n();
     let mut letters = Letters::new(roster, cells);
     let mut granted = put_all(&mut letters, n);
-    for letter in 1..4 {
+    for letter in 1..=3 {
         granted = granted.saturating_add(hand_all(&mut letters, n, letter));
     }
     granted
@@ -35,10 +35,9 @@ fn play_round(roster: Roster, cells: &mut [Cell]) -> u64 {
 fn put_all(letters: &mut Letters<'_>, n: u64) -> u64 {
     let mut granted: u64 = 0;
     for seat in 1..=n {
-        for slot in 1..3 {
-            if letters.put(seat, slot, seat).is_ok() {
-                granted = granted.saturating_add(1);
-            }
+        for slot in 1..=2 {
+            let answer = letters.put(seat, slot, seat);
+            granted = granted.saturating_add(u64::from(answer.is_ok()));
         }
     }
     granted
@@ -59,7 +58,7 @@ fn hand_all(letters: &mut Letters<'_>, n: u64, letter: u64) -> u64 {
 fn hand(letters: &mut Letters<'_>, n: u64, letter: u64, from: u64, to: u64) -> u64 {
     let mut granted: u64 = 0;
     for origin in 1..=n {
-        for slot in 1..3 {
+        for slot in 1..=2 {
             let by = Move {
                 address: 0,
                 kind: MoveKind::HandOver.into(),
@@ -70,9 +69,7 @@ fn hand(letters: &mut Letters<'_>, n: u64, letter: u64, from: u64, to: u64) -> u
                 slot,
                 code: 0,
             };
-            if letters.step(by).is_ok() {
-                granted = granted.saturating_add(1);
-            }
+            granted = granted.saturating_add(u64::from(letters.step(by).is_ok()));
         }
     }
     granted

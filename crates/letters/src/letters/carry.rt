@@ -26,6 +26,7 @@ impl Carrier for Letters<'_> {
     ghost steps = { λ s by r e. Steps s by r e };
 
     // The seat sends INIT.
+    #[tactic(auto, using(broadcast::proofs::Rows::row_at))]
     fn put(&mut self, seat: u64, slot: u64, code: u64) -> Result<(), Denial>
         ensures value { result ≡ answer (put_denial (view_of self.old) seat slot) tt }
         ensures same { is_ok result ≡ false → self.new ≡ self.old }

@@ -86,6 +86,7 @@ impl Rows<'_> {
     }
 
     // The letter that a move has its receiver count, or why it is denied.
+    #[tactic(auto, using(broadcast::proofs::Moves::unnamed))]
     pub(super) fn letter_due(&self, by: Move) -> Result<Letter, Denial>
         ensures { result ≡ due self.now.roster self.now.cells.now by }
     {

@@ -20,6 +20,7 @@ impl Rows<'_> {
     }
 
     // The cells of a slot stand together, and in it those of an origin.
+    #[tactic(auto, using(broadcast::proofs::Rows::place_low))]
     pub(super) fn place_of(&self, receiver: u64, origin: u64, slot: u64) -> usize
         requires { within self.now.roster.size.n receiver origin slot ≡ true }
         ensures value { result ≡ place self.now.roster.size.n receiver origin slot }

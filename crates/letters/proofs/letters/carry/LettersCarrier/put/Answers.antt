@@ -10,12 +10,6 @@ use Rattle.broadcast.proofs.Rows.{row_at}
 use Rattle.letters.proofs.Granted.{written}
 use Rattle.letters.proofs.letters.carry.LettersCarrier.put.Goals as goal
 
-pub returns-then-is_some-clause-value : goal.returns-then-is_some-clause-value
-returns-then-is_some-clause-value c =
-    let s = c.args.self.now in
-    let at = row_at s.roster.size.n s.cells.now c.args.seat c.args.slot c.args.seat (search rules) in
-    search rules
-
 pub returns : goal.returns
 returns c =
     let s = c.args.self.now in
