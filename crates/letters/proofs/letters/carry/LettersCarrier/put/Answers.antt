@@ -7,7 +7,7 @@ use Rattle.broadcast.specs.Rows.{fits, within, row}
 use Rattle.broadcast.proofs.Effects.{put_effect, put_keeps}
 use Rattle.broadcast.proofs.Laws as laws
 use Rattle.broadcast.proofs.Rows.{row_at}
-use Rattle.letters.proofs.Granted.{written}
+use Rattle.letters.proofs.Written.{written}
 use Rattle.letters.proofs.letters.carry.LettersCarrier.put.Goals as goal
 
 pub returns : goal.returns

@@ -9,7 +9,7 @@ use Rattle.broadcast.proofs.Effects.{move_effect, move_keeps}
 use Rattle.broadcast.proofs.Laws as laws
 use Rattle.broadcast.proofs.Moves.{due_why}
 use Rattle.letters.specs.Steps.{after_move, move_answer}
-use Rattle.letters.proofs.Granted.{written}
+use Rattle.letters.proofs.Written.{written}
 use Rattle.letters.proofs.letters.carry.LettersCarrier.step.Goals as goal
 
 pub place_of-i-requires : goal.place_of-i-requires
