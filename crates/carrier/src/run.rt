@@ -1,7 +1,8 @@
 // Runs a carrier from its first act on.
-ghost use Rattle.std.specs.Prelude.{◌≡◌, false, ◌⊎◌, List, IfOk, IfErr, Option};
+ghost use Rattle.std.specs.Prelude.{◌≡◌, false, ◌⊎◌, List, IfOk, IfErr, Option, Some};
 ghost use Rattle.carrier.specs.Histories.{Answers, Does, Law, Planned, Ran};
 ghost use Rattle.carrier.specs.Views.{View};
+ghost use Rattle.carrier.specs.Words.{why_not};
 ghost use Rattle.carrier.specs.declared.run.NoRun.TheVariants.{Memory, Touched};
 ghost use Rattle.carrier.specs.declared.history.Act.{Act};
 ghost use Rattle.carrier.specs.declared.history.Entry.{Entry};
@@ -9,6 +10,7 @@ ghost use Rattle.carrier.specs.declared.history.Entry.{Entry};
 use crate::carrier::Carrier;
 use crate::history::{Act, Answer, Entry};
 use std::alloc::{AllocFailed, Global};
+use std::fmt;
 
 // Chooses the acts of a run, each in view of the answers so far: a list, or someone at a prompt.
 pub trait Plan {
@@ -29,11 +31,22 @@ pub enum NoRun {
     Memory,
 }
 
+impl fmt::Display for NoRun {
+    ghost output = { λ e. Some (why_not e) };
+
+    fn fmt<W: fmt::Write>(&self, f: &mut fmt::Formatter<W>) -> fmt::Result {
+        f.write_str(match self {
+            NoRun::Touched => "the carrier was used before",
+            NoRun::Memory => "there is no memory for the history",
+        })
+    }
+}
+
 impl From<AllocFailed<Entry>> for NoRun {
     ghost from_gives = { λ _ e. e ≡ Memory };
 
     fn from(_: AllocFailed<Entry>) -> NoRun {
-        NoRun::Memory
+        Self::Memory
     }
 }
 

@@ -9,6 +9,7 @@ use std::fmt;
 use wire::letter::{LETTER_LEN, Letter};
 use wire::{reader, writer};
 
+// A refusal is one of the answers, and not the error of a Result: it is printed behind the job as the others are.
 #[derive(Clone, Copy)]
 pub enum Answer {
     // of a job to write

@@ -1,4 +1,4 @@
-// Whole broadcasts: each seat puts for both slots, and every letter is handed over.
+// Whole broadcasts: each seat puts for both slots, and every letter is handed over. In loops, as in the plain Rust that it is compared with.
 use broadcast::cell::Cell;
 use carrier::carrier::Carrier;
 use letters::letters::Letters;

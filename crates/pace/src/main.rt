@@ -3,8 +3,9 @@
 
 mod load;
 
-use anyhow::anyhow;
+use anyhow::{anyhow, bail};
 use load::play;
+use program::end::ended;
 use roster::roster::Roster;
 use script::number::number;
 use std::env;
@@ -14,13 +15,7 @@ const USAGE: &str =
     "expected N T ROUNDS: N seats, of which T may be faulty, and how often each puts for both slots";
 
 fn main(rt: HostRuntime) -> anyhow::Result<ExitCode> {
-    match run(&rt) {
-        Ok(()) => Ok(ExitCode::SUCCESS),
-        Err(e) => {
-            eprintln!(rt; "pace: {e}")?;
-            Ok(ExitCode::FAILURE)
-        }
-    }
+    ended(&rt, "pace", run(&rt))
 }
 
 fn run(rt: &HostRuntime) -> anyhow::Result<()> {
@@ -29,21 +24,14 @@ fn run(rt: &HostRuntime) -> anyhow::Result<()> {
     let n = wanted(args.next())?;
     let t = wanted(args.next())?;
     let rounds = wanted(args.next())?;
-    let roster = match Roster::new(n, t, 0) {
-        Ok(roster) => roster,
-        Err(e) => return Err(anyhow!(format!(in rt.alloc(); "{e}")?)),
-    };
-    let granted = play(roster, rounds);
-    println!(rt; "{granted}")?;
+    match Roster::new(n, t, 0) {
+        Ok(roster) => println!(rt; "{}", play(roster, rounds))?,
+        Err(e) => bail!("{e}"),
+    }
     Ok(())
 }
 
 fn wanted(arg: Option<String>) -> anyhow::Result<u64> {
-    let Some(word) = arg else {
-        return Err(anyhow!(USAGE));
-    };
-    match number(word.as_str()) {
-        Some(n) => Ok(n),
-        None => Err(anyhow!(USAGE)),
-    }
+    arg.and_then(|word| number(word.as_str()))
+        .ok_or_else(|| anyhow!(USAGE))
 }

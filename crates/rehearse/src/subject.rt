@@ -5,7 +5,7 @@ use anyhow::anyhow;
 use board::board::Board;
 use broadcast::cell::Cell;
 use carrier::history::Entry;
-use carrier::run::{NoRun, run};
+use carrier::run::run;
 use letters::letters::Letters;
 use letters::letters::make::cells_needed;
 use roster::roster::Roster;
@@ -40,7 +40,7 @@ impl<'a> Subject<'a> {
         Ok(())
     }
 
-    // The run of the acts on a fresh carrier.
+    // The run of the acts on a fresh carrier. The two are of different types, and each run is of one.
     fn history(&self, heap: Global, roster: Roster) -> anyhow::Result<Vec<Entry>> {
         let lines: Vec<Line> = self.acts.iter().map(|(_, line)| *line).collect(heap)?;
         let mut plan = Acts::new(lines.as_slice(), roster.size().n());
@@ -56,10 +56,7 @@ impl<'a> Subject<'a> {
                 )
             }
         };
-        history.map_err(|e| match e {
-            NoRun::Memory => anyhow!("there is no memory for the history"),
-            NoRun::Touched => anyhow!("the carrier was used before"),
-        })
+        history.map_err(|e| anyhow!("{e}"))
     }
 
     fn add_answers(

@@ -36,7 +36,7 @@ pub enum Denial {
 }
 
 impl Denial {
-    // The refusal's number, 1 to 13.
+    // The refusal's number, 1 to 13: what C is answered, and people read.
     pub fn number(&self) -> u8
         ensures { result ≡ number_of self.now }
     {

@@ -1,4 +1,5 @@
-// Counting who said what, in an array by seat: seat k at index k - 1.
+// Counting who said what, in an array by seat: seat k at index k - 1. There are ten seats at the most, so that no memory is asked for, and a
+// size says how many there are.
 ghost use Rattle.std.specs.Prelude.{◌≡◌};
 ghost use Rattle.roster.specs.Votes.{by_seat, others, said, votes};
 

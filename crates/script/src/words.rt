@@ -26,7 +26,14 @@ impl<'a> Words<'a> {
         ensures only { IfOk result (λ ws. (vs : List (List ℕ)) → AreWords line.now vs → ws ≡ vs) }
     {
         let words = line.split_whitespace().collect(heap)?;
-        Ok(Words { words })
+        Ok(Words::new(words))
+    }
+
+    // Any words, in their order.
+    pub fn new(words: Vec<&'a str>) -> Words<'a>
+        ensures { result ≡ map (λ w. w.now) words.entry.items }
+    {
+        Words { words }
     }
 
     pub fn len(&self) -> usize

@@ -1,4 +1,4 @@
-// Where a board keeps what.
+// Where a board keeps what. Seat, origin and slot come one by one, as a carrier is asked by any three numbers.
 ghost use Rattle.std.specs.Prelude.{◌≡◌, ◌<◌, true};
 ghost use Rattle.board.specs.Places.{is_place, is_held_place, place, held_place};
 

@@ -8,7 +8,7 @@ use crate::letter::Kind;
 use roster::votes::said_by;
 
 impl Cell {
-    // Nothing counted, sent or held.
+    // Nothing counted, sent or held. A derived default would promise of its arrays only that each entry is none.
     pub fn blank() -> Cell
         ensures { result ≡ blank }
     {

@@ -1,4 +1,4 @@
-// Where the cells stand, and reading one.
+// Where the cells stand, and reading one. Receiver, origin and slot come one by one, as a carrier is asked by any three numbers.
 ghost use Rattle.std.specs.Prelude.{◌≡◌, ◌<◌, true, false, length, None, MatchOption};
 ghost use Rattle.broadcast.specs.Rows.{place, within};
 ghost use Rattle.letters.specs.Rows.{row_in};

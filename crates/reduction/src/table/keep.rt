@@ -32,7 +32,7 @@ impl Table {
         self.touched
     }
 
-    // One record changed.
+    // One record changed, by its index: of a record lent by `get_mut` the check cannot tell what it leaves in the table.
     pub fn change(&mut self, seat: u64, to: Record)
         ensures seats { self.new.seats ≡ slice_set self.old.seats (seat - 1) to }
         ensures touched { self.new.touched ≡ true }

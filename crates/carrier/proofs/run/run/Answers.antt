@@ -1,6 +1,6 @@
-use Rattle.std.proofs.Common.{◌≡◌, true, [], ◌∷◌, ◌++◌, Some, None, vec_items, sym, refl, subst, inl, inr, rules}
+use Rattle.std.proofs.Common.{◌≡◌, [], ◌∷◌, ◌++◌, Some, vec_items, sym, subst, rules}
 use Rattle.carrier.specs.Histories.{Chosen, Ran}
-use Rattle.carrier.proofs.Kept.{Kept, kept_none, kept_next, ran_next, chosen_next}
+use Rattle.carrier.proofs.Kept.{Kept, kept_next, ran_next, chosen_next}
 use Rattle.carrier.proofs.run.run.Goals as goal
 
 pub loop-k-preserved : goal.loop-k-preserved

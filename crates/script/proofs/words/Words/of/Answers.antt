@@ -1,4 +1,4 @@
-use Rattle.std.proofs.Common.{◌≡◌, ℕ, List, [], ◌∷◌, map, vec_items, Bor, rules}
+use Rattle.std.proofs.Common.{◌≡◌, ℕ, List, [], ◌∷◌, map, vec_items, Bor, sym, ◌∙◌, subst, rules}
 use Rattle.std.specs.declared.str.SplitWhitespace.{SplitWhitespace}
 use Rattle.std.specs.Iterator.{Yields}
 use Rattle.std.specs.Str.Iter.{split_whitespace_rest, split_whitespace_steps}
@@ -24,4 +24,5 @@ returns c =
     let all = drained c.split_whitespace.result ran.1.0 ran.0 ran.1.1 (ran.1.2 tt).1.1 in
     let items : vec_items c.in_ok-words.words ≡ ran.0 = search rules in
     let words : AreWords c.args.line.now (map (λ x. x.now) (vec_items c.in_ok-words.words)) = rw items (rw c.split_whitespace.ensures.rest at all) in
-    record { made = words; only = λ ws h. one_way c.args.line.now _ ws words h }
+    let same = c.new.ensures in
+    record { made = subst (AreWords c.args.line.now) (sym same) words; only = λ ws h. same ∙ one_way c.args.line.now _ ws words h }
