@@ -8,7 +8,7 @@ use Rattle.roster.specs.declared.moves.Move.{Move}
 use Rattle.roster.specs.declared.moves.MoveKind.{MoveKind}
 use Rattle.roster.specs.declared.moves.MoveKind.TheVariants.{Stray, HandOver}
 use Rattle.roster.specs.declared.roster.Roster.{Roster}
-use Rattle.roster.specs.Moves.{number_of}
+use Rattle.roster.specs.Moves.{kind_number}
 use Rattle.roster.specs.Rosters.{sound}
 use Rattle.broadcast.specs.declared.cell.Cell.{Cell}
 use Rattle.broadcast.specs.declared.letter.Kind.{Kind}
@@ -38,7 +38,7 @@ pub record Due (r : Roster) (cs : List Cell) (by : Move) (l : Letter) : Type 0 w
   pub as_sent : sound r l.sender ≡ true → sent l.kind (row r.size.n cs by.origin by.slot l.sender) ≡ Some l.code
 
 -- a number that no kind of move goes by
-pub unnamed : (by : Move) → ((kind : MoveKind) → by.kind ≢ number_of kind) → (is_stray by || is_hand_over by) ≡ false
+pub unnamed : (by : Move) → ((kind : MoveKind) → by.kind ≢ kind_number kind) → (is_stray by || is_hand_over by) ≡ false
 unnamed by h = or_from (is_stray by) (is_hand_over by) (ne_eqb by.kind 1 (h Stray)) (ne_eqb by.kind 2 (h HandOver))
 
 own_origin : (k : Kind) (s o : ℕ) → from_origin k s o ≡ true → k ≡ Init → s ≡ o

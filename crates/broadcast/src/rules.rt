@@ -6,20 +6,10 @@ ghost use Rattle.broadcast.specs.Rules.{counted, counted_echo, counted_init, cou
 use crate::cell::Cell;
 use crate::letter::{Kind, Letter};
 use roster::size::Size;
-use roster::votes::count_votes;
+use roster::votes::{count_votes, set_seat};
 
-// One more is counted, by its index: of an entry lent by `get_mut` the check cannot tell what it leaves in the array.
-#[tactic(auto, using(std::proofs::lemmas::List::set_past))]
-fn record(by: &mut [Option<u64>; 10], sender: u64, code: u64)
-    ensures { by.new ≡ slice_set by.old (sender - 1) (Some code) }
-{
-    let i = sender.saturating_sub(1);
-    if i < 10 {
-        by[i as usize] = Some(code);
-    }
-}
-
-// What is sent or held once stays; else it is the code, where that is due. `or` and `then_some` would say it too, and make the load a third slower.
+// What is sent or held once stays; else it is the code, where that is due. A test of both Options: `or` with `then_some` makes a delivery slower
+// by a third.
 fn only_once(before: Option<u64>, due: bool, code: u64) -> Option<u64>
     ensures { result ≡ once before due code }
 {
@@ -37,18 +27,20 @@ impl Cell {
         self.echoed = Some(code);
     }
 
-    fn count_echo(&mut self, size: Size, sender: u64, code: u64)
-        ensures { self.new ≡ counted_echo size.n size.t self.old (slice_set self.old.echo (sender - 1) (Some code)) code }
+    fn count_echo(&mut self, size: Size, letter: Letter)
+        ensures { self.new ≡ counted_echo size.n size.t self.old (slice_set self.old.echo (letter.sender - 1) (Some letter.code)) letter.code }
     {
-        record(&mut self.echo, sender, code);
+        let code = letter.code;
+        set_seat(&mut self.echo, letter.sender, Some(code));
         let quorum = count_votes(size, &self.echo, code) >= size.echo_quorum();
         self.readied = only_once(self.readied, quorum, code);
     }
 
-    fn count_ready(&mut self, size: Size, sender: u64, code: u64)
-        ensures { self.new ≡ counted_ready size.n size.t self.old (slice_set self.old.ready (sender - 1) (Some code)) code }
+    fn count_ready(&mut self, size: Size, letter: Letter)
+        ensures { self.new ≡ counted_ready size.n size.t self.old (slice_set self.old.ready (letter.sender - 1) (Some letter.code)) letter.code }
     {
-        record(&mut self.ready, sender, code);
+        let code = letter.code;
+        set_seat(&mut self.ready, letter.sender, Some(code));
         let votes = count_votes(size, &self.ready, code);
         self.readied = only_once(self.readied, votes >= size.one_sound(), code);
         self.held = only_once(self.held, votes >= size.ready_quorum(), code);
@@ -60,8 +52,8 @@ impl Cell {
     {
         match letter.kind {
             Kind::Init => self.count_init(letter.code),
-            Kind::Echo => self.count_echo(size, letter.sender, letter.code),
-            Kind::Ready => self.count_ready(size, letter.sender, letter.code),
+            Kind::Echo => self.count_echo(size, letter),
+            Kind::Ready => self.count_ready(size, letter),
         }
     }
 }

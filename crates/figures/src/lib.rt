@@ -4,5 +4,6 @@
 pub mod figure;
 pub mod order;
 pub mod reading;
+mod tank;
 #[cfg(test)]
 mod tests;

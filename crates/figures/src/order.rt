@@ -2,9 +2,10 @@
 ghost use Rattle.std.specs.Prelude.{◌≡◌, refl};
 ghost use Rattle.std.proofs.Common.{rules};
 ghost use Rattle.figures.specs.Apart.{orders_apart};
-ghost use Rattle.figures.specs.Figures.{is_tank, order_proper, order_code};
+ghost use Rattle.figures.specs.Figures.{order_proper, order_code};
 
 use crate::figure::Figure;
+use crate::tank::is_tank;
 use roster::denial::Denial;
 
 // The tank that it comes from and the one that it goes to, two different ones of 1 to 99, and the litres, 1 to 999,999.
@@ -13,12 +14,6 @@ pub struct Order {
     pub from: u64,
     pub to: u64,
     pub litres: u64,
-}
-
-fn is_tank(tank: u64) -> bool
-    ensures { result ≡ is_tank tank }
-{
-    1 <= tank && tank <= 99
 }
 
 fn is_proper(order: Order) -> bool

@@ -4,6 +4,7 @@ ghost use Rattle.std.proofs.Common.{rules};
 ghost use Rattle.figures.specs.Figures.{reading_proper, reading_code};
 
 use crate::figure::Figure;
+use crate::tank::is_tank;
 use roster::denial::Denial;
 
 // A tank, 1 to 99, and the litres in it, 0 to 999,999.
@@ -33,7 +34,7 @@ impl Figure for Reading {
     }
 
     fn code(&self) -> Result<u64, Denial> {
-        if self.tank < 1 || self.tank > 99 || self.litres > 999_999 {
+        if !is_tank(self.tank) || self.litres > 999_999 {
             return Err(Denial::FigureRange);
         }
         Ok(self.tank * 1_000_000 + self.litres)
@@ -41,10 +42,7 @@ impl Figure for Reading {
 
     fn read(code: u64) -> Option<Reading> {
         let tank = code / 1_000_000;
-        if tank < 1 || tank > 99 {
-            return None;
-        }
-        Some(Reading {
+        is_tank(tank).then_some(Reading {
             tank,
             litres: code % 1_000_000,
         })

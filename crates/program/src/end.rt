@@ -1,12 +1,13 @@
 // How a program ends.
-ghost use Rattle.std.specs.Prelude.{◌≡◌, IfOk, is_ok, if◌then◌else◌};
+ghost use Rattle.std.specs.Prelude.{◌≡◌, true, IfOk, is_ok, if◌then◌else◌};
 ghost use Rattle.std.specs.Process.{exit_status};
 
 use std::process::ExitCode;
 
 // The status for the outcome. What failed goes to standard error, behind the program's name.
 pub fn ended<R: Eprint>(rt: &R, name: &str, outcome: anyhow::Result<()>) -> anyhow::Result<ExitCode>
-    ensures { IfOk result (λ code. exit_status code ≡ (if is_ok outcome then 0 else 1)) }
+    ensures value { IfOk result (λ code. exit_status code ≡ (if is_ok outcome then 0 else 1)) }
+    ensures done { is_ok outcome ≡ true → is_ok result ≡ true }
 {
     match outcome {
         Ok(()) => Ok(ExitCode::SUCCESS),

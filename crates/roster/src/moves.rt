@@ -1,6 +1,6 @@
 // What moves a part on: a message handed over, a stray act of a faulty seat, a seat woken.
 ghost use Rattle.std.specs.Prelude.{◌≡◌};
-ghost use Rattle.roster.specs.Moves.{Named, number_of};
+ghost use Rattle.roster.specs.Moves.{Named, kind_number};
 
 use crate::denial::Denial;
 
@@ -31,7 +31,7 @@ pub enum MoveKind {
 }
 
 impl From<MoveKind> for u64 {
-    ghost from_gives = { λ kind n. n ≡ number_of kind };
+    ghost from_gives = { λ kind n. n ≡ kind_number kind };
 
     fn from(kind: MoveKind) -> u64 {
         match kind {

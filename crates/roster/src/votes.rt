@@ -1,17 +1,29 @@
 // Counting who said what, in an array by seat: seat k at index k - 1. There are ten seats at the most, so that no memory is asked for, and a
 // size says how many there are.
-ghost use Rattle.std.specs.Prelude.{◌≡◌};
+ghost use Rattle.std.specs.Prelude.{◌≡◌, ◌-◌, slice_set};
 ghost use Rattle.roster.specs.Votes.{by_seat, others, said, votes};
 
 use crate::size::Size;
 
-// What a seat said. A number that is no seat's said nothing.
+// What stands in a seat's place, and nothing past the last one; 0 is read as seat 1.
 pub fn said_by<T: Copy>(by: &[Option<T>; 10], seat: u64) -> Option<T>
     ensures { result ≡ by_seat by.now seat }
 {
     match by.get(seat.saturating_sub(1) as usize) {
         Some(said) => *said,
         None => None,
+    }
+}
+
+// Puts something in a seat's place, and changes nothing where there is none. By its index: what an entry that was lent by `get_mut` leaves in
+// the array is not known.
+#[tactic(auto, using(std::proofs::lemmas::List::set_past))]
+pub fn set_seat<T: Drop>(by: &mut [T; 10], seat: u64, to: T)
+    ensures { by.new ≡ slice_set by.old (seat - 1) to }
+{
+    let place = seat.saturating_sub(1) as usize;
+    if place < 10 {
+        by[place] = to;
     }
 }
 

@@ -16,7 +16,7 @@ pub struct Acts<'a> {
     lines: &'a [Line],
     // how many seats there are
     n: u64,
-    // the line that is next, or that is being settled: a place, since what the plan chooses is told of all lines
+    // the place of the line that is next, or that is being settled
     at: usize,
     // how many acts of the present settling were chosen
     settling: u64,

@@ -9,7 +9,7 @@ use roster::decision::Decision;
 
 impl Row {
     // How many origins are settled as a code.
-    fn support(&self, code: u64) -> u64
+    pub fn support(&self, code: u64) -> u64
         ensures { result ≡ support self.now.size.n (by_seat self.now.settled) code }
     {
         let n = self.size.n() as usize;
@@ -20,7 +20,7 @@ impl Row {
     }
 
     // How many origins are settled as any figure.
-    fn count_figures(&self) -> u64
+    pub fn count_figures(&self) -> u64
         ensures { result ≡ figures self.now.size.n (by_seat self.now.settled) }
     {
         let n = self.size.n() as usize;

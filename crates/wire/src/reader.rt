@@ -10,8 +10,8 @@ use roster::denial::Denial;
 // How many bytes stand before the code's, whose eight bytes may be any.
 const HEAD_LEN: usize = 15;
 
-// The smallest and the largest byte that a letter has at each place before its code. Not one array of pairs: of the elements
-// of a constant array of pairs the check knows nothing.
+// The smallest and the largest byte that a letter has at each place before its code. Two arrays and
+// not one of pairs, of whose elements nothing would be known.
 const LOW: [u8; HEAD_LEN] = [1, 0, 1, 1, 2, 0, 1, 1, 3, 0, 1, 1, 4, 0, 8];
 
 const HIGH: [u8; HEAD_LEN] = [1, 0, 1, 3, 2, 0, 1, 10, 3, 0, 1, 2, 4, 0, 8];

@@ -52,12 +52,10 @@ impl Carrier for Board {
     }
 
     fn holds(&self, seat: u64, origin: u64, slot: u64) -> Result<Option<u64>, Denial> {
-        if !self.roster.has(seat) || !self.has(origin, slot) {
+        if !self.has(origin, slot) {
             return Err(Denial::OutOfRange);
         }
-        if !self.roster.is_sound(seat) {
-            return Err(Denial::FaultySeat);
-        }
+        self.roster.check_sound(seat)?;
         Ok(self.holding(seat, origin, slot))
     }
 

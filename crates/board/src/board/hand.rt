@@ -14,12 +14,10 @@ impl Board {
         ensures same { is_ok result ≡ false → self.new ≡ self.old }
         ensures after { is_ok result ≡ true → Handed self.old from to slot self.new }
     {
-        if !self.has(from, slot) || !self.roster.has(to) {
+        if !self.has(from, slot) {
             return Err(Denial::OutOfRange);
         }
-        if !self.roster.is_sound(to) {
-            return Err(Denial::FaultySeat);
-        }
+        self.roster.check_sound(to)?;
         let Some(code) = self.writing(from, slot) else {
             return Err(Denial::NothingDue);
         };

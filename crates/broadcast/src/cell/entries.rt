@@ -8,7 +8,7 @@ use crate::letter::Kind;
 use roster::votes::said_by;
 
 impl Cell {
-    // Nothing counted, sent or held. A derived default would promise of its arrays only that each entry is none.
+    // Nothing counted, sent or held. A derived default would promise less of its arrays.
     pub fn blank() -> Cell
         ensures { result ≡ blank }
     {

@@ -9,6 +9,7 @@ use carrier::slot::is_slot;
 use roster::denial::Denial;
 use roster::moves::{Move, MoveKind};
 
+// The rules speak of a move as it came in, and so its kind is read from it where it is asked for.
 fn is_stray(by: Move) -> bool
     ensures { result ≡ is_stray by }
 {

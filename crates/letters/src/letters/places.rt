@@ -42,7 +42,7 @@ impl Rows<'_> {
         Some(&self.cells[self.place_of(receiver, origin, slot)])
     }
 
-    // Whether a sound seat has such a cell.
+    // The checks of a question or a put: that there is such a cell, then that the seat is sound.
     pub(super) fn check(&self, seat: u64, origin: u64, slot: u64) -> Result<(), Denial>
         ensures { result ≡ answer (check (within self.now.roster.size.n seat origin slot) OutOfRange (check (sound self.now.roster seat) FaultySeat None)) tt }
     {

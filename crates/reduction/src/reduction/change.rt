@@ -1,4 +1,4 @@
-// What changes a reduction: a put to one of its parts, and one record with it. Seat and record go together here and no further.
+// What changes a reduction: a put to one of its parts, and one seat's record with it.
 ghost use Rattle.std.specs.Prelude.{◌≡◌, true, false, is_ok};
 ghost use Rattle.agreement.specs.Views.{put_denial};
 ghost use Rattle.carrier.specs.Views.{put_denial as carrier_put_denial};

@@ -3,6 +3,7 @@ ghost use Rattle.std.specs.Prelude.{◌≡◌, ◌-◌, true, false, replicate, 
 ghost use Rattle.settling.specs.Layers.{blank};
 
 use crate::table::Table;
+use roster::votes::set_seat;
 use settling::record::Record;
 
 impl Table {
@@ -32,15 +33,12 @@ impl Table {
         self.touched
     }
 
-    // One record changed, by its index: of a record lent by `get_mut` the check cannot tell what it leaves in the table.
+    // One record changed.
     pub fn change(&mut self, seat: u64, to: Record)
         ensures seats { self.new.seats ≡ slice_set self.old.seats (seat - 1) to }
         ensures touched { self.new.touched ≡ true }
     {
-        let place = seat.saturating_sub(1) as usize;
         self.touched = true;
-        if place < 10 {
-            self.seats[place] = to;
-        }
+        set_seat(&mut self.seats, seat, to);
     }
 }

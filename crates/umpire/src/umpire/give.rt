@@ -4,8 +4,8 @@ ghost use Rattle.roster.specs.Checks.{answer};
 ghost use Rattle.umpire.specs.Calls.{give_denial, Given};
 
 use crate::umpire::Umpire;
-use crate::umpire::look::place_of;
 use roster::denial::Denial;
+use roster::votes::set_seat;
 
 impl Umpire {
     // The sound seat `to` is given the ruling, once.
@@ -21,9 +21,8 @@ impl Umpire {
         if self.given_to(to).is_some() {
             return Err(Denial::HandedBefore);
         }
-        let place = place_of(to);
-        self.given[place] = self.ruling;
         self.touched = true;
+        set_seat(&mut self.given, to, self.ruling);
         Ok(())
     }
 }

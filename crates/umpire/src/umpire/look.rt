@@ -1,6 +1,5 @@
 // What an umpire was told, and whom it told.
-ghost use Rattle.std.specs.Prelude.{◌≡◌, ◌-◌, ◌<◌, true};
-ghost use Rattle.roster.specs.Counting.{is_seat};
+ghost use Rattle.std.specs.Prelude.{◌≡◌};
 ghost use Rattle.roster.specs.Votes.{by_seat};
 ghost use Rattle.umpire.specs.Calls.{has_choice};
 
@@ -8,27 +7,12 @@ use crate::umpire::Umpire;
 use roster::decision::Decision;
 use roster::votes::said_by;
 
-// Where a seat's entry stands.
-pub(super) fn place_of(seat: u64) -> usize
-    ensures { result ≡ seat - 1 }
-{
-    seat.saturating_sub(1) as usize
-}
-
 impl Umpire {
     // Whether there is more than one code to choose from.
     pub(super) fn has_choice(&self) -> bool
         ensures { result ≡ has_choice self.now.largest }
     {
         1 <= self.largest
-    }
-
-    // Whether a number is a seat's.
-    pub(super) fn has(&self, seat: u64) -> bool
-        ensures value { result ≡ is_seat self.now.roster.size.n seat }
-        ensures place { result ≡ true → seat - 1 < 10 }
-    {
-        self.roster.has(seat)
     }
 
     // What a seat has put.

@@ -4,9 +4,9 @@ ghost use Rattle.roster.specs.Checks.{answer};
 ghost use Rattle.umpire.specs.Calls.{note_denial, Noted};
 
 use crate::umpire::Umpire;
-use crate::umpire::look::place_of;
 use crate::umpire::rules::ruled;
 use roster::denial::Denial;
+use roster::votes::set_seat;
 
 impl Umpire {
     // A seat puts a code, once. A put is a sound seat's, a stray act a faulty one's.
@@ -15,7 +15,7 @@ impl Umpire {
         ensures same { is_ok result ≡ false → self.new ≡ self.old }
         ensures after { is_ok result ≡ true → Noted self.old seat code self.new }
     {
-        if !self.has(seat) {
+        if !self.roster.has(seat) {
             return Err(Denial::OutOfRange);
         }
         if self.roster.is_sound(seat) != as_sound {
@@ -27,11 +27,9 @@ impl Umpire {
         if self.put_of(seat).is_some() {
             return Err(Denial::PutBefore);
         }
-        let mut puts = self.puts;
-        puts[place_of(seat)] = Some(code);
-        self.ruling = ruled(self.roster.size(), &puts, code, self.ruling);
-        self.puts = puts;
         self.touched = true;
+        set_seat(&mut self.puts, seat, Some(code));
+        self.ruling = ruled(self.roster.size(), &self.puts, code, self.ruling);
         Ok(())
     }
 }
