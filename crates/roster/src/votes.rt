@@ -9,10 +9,7 @@ use crate::size::Size;
 pub fn said_by<T: Copy>(by: &[Option<T>; 10], seat: u64) -> Option<T>
     ensures { result ≡ by_seat by.now seat }
 {
-    match by.get(seat.saturating_sub(1) as usize) {
-        Some(said) => *said,
-        None => None,
-    }
+    by.get(seat.saturating_sub(1) as usize).copied().flatten()
 }
 
 // Puts something in a seat's place, and changes nothing where there is none. By its index: what an entry that was lent by `get_mut` leaves in

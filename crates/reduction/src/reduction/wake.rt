@@ -18,9 +18,10 @@ pub(super) fn below_by(by: Move) -> Move
     requires { 2 ≤ by.address }
     ensures { result ≡ below_by by }
 {
-    let mut lower = by;
-    lower.address = by.address - 2;
-    lower
+    Move {
+        address: by.address - 2,
+        ..by
+    }
 }
 
 impl<C: Carrier, B: Agreement> Reduction<C, B> {
@@ -57,13 +58,11 @@ impl<C: Carrier, B: Agreement> Reduction<C, B> {
         ensures above { C.Carrier.ok self.old.carrier → C.Carrier.ok self.new.carrier }
         ensures below { B.Agreement.ok self.old.below → B.Agreement.ok self.new.below }
     {
-        if by.kind != u64::from(MoveKind::Wake) {
+        let MoveKind::Wake = MoveKind::try_from(by.kind)? else {
             return Err(Denial::NoSuchAddress);
-        }
-        self.carrier.roster().check_sound(by.to)?;
-        let Some(due) = self.due(by.to) else {
-            return Err(Denial::NothingDue);
         };
+        self.carrier.roster().check_sound(by.to)?;
+        let due = self.due(by.to).ok_or(Denial::NothingDue)?;
         self.act(by.to, due)
     }
 }
