@@ -22,7 +22,7 @@ pub struct Subject<'a> {
 }
 
 impl<'a> Subject<'a> {
-    pub fn new(heap: Global, kind: Kind) -> Subject<'a> {
+    pub(crate) fn new(heap: Global, kind: Kind) -> Subject<'a> {
         Subject {
             kind,
             roster: None,
@@ -31,7 +31,7 @@ impl<'a> Subject<'a> {
     }
 
     // Adds the acts with their answers to the story.
-    pub fn play(&self, heap: Global, story: &mut String) -> anyhow::Result<()> {
+    pub(crate) fn play(&self, heap: Global, story: &mut String) -> anyhow::Result<()> {
         let Some(roster) = self.roster else {
             return Ok(());
         };
@@ -40,7 +40,7 @@ impl<'a> Subject<'a> {
         Ok(())
     }
 
-    // The run of the acts on a fresh carrier. The two are of different types, and each run is of one.
+    // The run of the acts on a fresh carrier. A run is generic in its carrier, and the two carriers are different types.
     fn history(&self, heap: Global, roster: Roster) -> anyhow::Result<Vec<Entry>> {
         let lines: Vec<Line> = self.acts.iter().map(|(_, line)| *line).collect(heap)?;
         let mut plan = Acts::new(lines.as_slice(), roster.size().n());
