@@ -4,7 +4,8 @@ ghost use Rattle.jobs.specs.Jobs.{Asked, FourNumbers, Hexed, Parsed};
 
 use crate::job::{Job, NoJob};
 use script::hex;
-use script::words::Words;
+use script::line::Words;
+use script::words::words;
 use std::alloc::{AllocError, Global};
 use wire::letter::Letter;
 
@@ -12,11 +13,12 @@ use wire::letter::Letter;
 pub fn parse(heap: Global, line: &str) -> Result<Option<Job>, NoJob>
     ensures { Parsed line.now result }
 {
-    asked(heap, &Words::of(heap, line)?)
+    let words = words(heap, line)?;
+    asked(heap, &Words::new(words.as_slice()))
 }
 
 // What the words ask for.
-fn asked(heap: Global, words: &Words<'_>) -> Result<Option<Job>, NoJob>
+fn asked(heap: Global, words: &Words<'_, '_>) -> Result<Option<Job>, NoJob>
     ensures { Asked words.now result }
 {
     if words.is_silent() {
@@ -33,7 +35,7 @@ fn asked(heap: Global, words: &Words<'_>) -> Result<Option<Job>, NoJob>
 }
 
 // The letter whose numbers follow the first word.
-fn four_numbers(heap: Global, words: &Words<'_>) -> Result<Option<Letter>, AllocError>
+fn four_numbers(heap: Global, words: &Words<'_, '_>) -> Result<Option<Letter>, AllocError>
     ensures { IfOk result (λ found. MatchOption found ((l : Letter) → FourNumbers words.now l → ⊥) (FourNumbers words.now)) }
 {
     let Some(numbers) = words.numbers(heap)? else {
@@ -57,7 +59,7 @@ fn four(ns: &[u64]) -> Option<Letter>
 }
 
 // The bytes that follow the first word in hex.
-fn one_hex(heap: Global, words: &Words<'_>) -> Result<Vec<u8>, NoJob>
+fn one_hex(heap: Global, words: &Words<'_, '_>) -> Result<Vec<u8>, NoJob>
     ensures { Hexed words.now result }
 {
     if words.len() != 2 {

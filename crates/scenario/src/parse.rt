@@ -7,18 +7,20 @@ use crate::command::{Command, named};
 use crate::line::{Kind, Line, NoLine};
 use carrier::history::Act;
 use roster::moves::Move;
-use script::words::Words;
+use script::line::Words;
+use script::words::words;
 use std::alloc::{AllocError, Global};
 
 // What the line asks for, and nothing for an empty line or a comment.
 pub fn parse(heap: Global, line: &str) -> Result<Option<Line>, NoLine>
     ensures { Parsed line.now result }
 {
-    asked(heap, &Words::of(heap, line)?)
+    let words = words(heap, line)?;
+    asked(heap, &Words::new(words.as_slice()))
 }
 
 // What the words ask for.
-fn asked(heap: Global, words: &Words<'_>) -> Result<Option<Line>, NoLine>
+fn asked(heap: Global, words: &Words<'_, '_>) -> Result<Option<Line>, NoLine>
     ensures { Reads words.now result }
 {
     if words.is_silent() {
@@ -30,7 +32,7 @@ fn asked(heap: Global, words: &Words<'_>) -> Result<Option<Line>, NoLine>
 }
 
 // The line of a command, by what follows it.
-fn rest(heap: Global, command: Command, words: &Words<'_>) -> Result<Option<Line>, AllocError>
+fn rest(heap: Global, command: Command, words: &Words<'_, '_>) -> Result<Option<Line>, AllocError>
     ensures { IfOk result (λ found. MatchOption found ((l : Line) → command_of l ≡ command → Rest words.now l → ⊥) (λ l. (command_of l ≡ command) × Rest words.now l)) }
 {
     if command == Command::Carrier {
@@ -42,7 +44,7 @@ fn rest(heap: Global, command: Command, words: &Words<'_>) -> Result<Option<Line
     Ok(counted(command, numbers.as_slice()))
 }
 
-fn kind(words: &Words<'_>) -> Option<Line>
+fn kind(words: &Words<'_, '_>) -> Option<Line>
     ensures { MatchOption result ((l : Line) → command_of l ≡ carrier → Rest words.now l → ⊥) (λ l. (command_of l ≡ carrier) × Rest words.now l) }
 {
     if words.len() != 2 {

@@ -1,12 +1,13 @@
-use Rattle.std.proofs.Common.{◌≡◌, ℕ, List, [], ◌∷◌, map, vec_items, Bor, sym, ◌∙◌, subst, rules}
+use Rattle.std.proofs.Common.{ℕ, List, [], ◌∷◌, map, Bor}
 use Rattle.std.specs.declared.str.SplitWhitespace.{SplitWhitespace}
 use Rattle.std.specs.Iterator.{Yields}
 use Rattle.std.specs.Str.Iter.{split_whitespace_rest, split_whitespace_steps}
 use Rattle.std.specs.Char.{is_not_whitespace}
 use Rattle.std.specs.Str.{NoCharPasses}
+use Rattle.std.proofs.lemmas.Result.{IfOk-weaker}
 use Rattle.script.specs.Words.{AreWords}
 use Rattle.script.proofs.Cuts.{one_way}
-use Rattle.script.proofs.words.Words.of.Goals as goal
+use Rattle.script.proofs.words.words.Goals as goal
 
 -- what `split_whitespace` gave on the way from s to t, where no word is left
 drained : (s t : SplitWhitespace) (xs : List (Bor (List ℕ))) → Yields split_whitespace_steps s xs t → NoCharPasses is_not_whitespace (split_whitespace_rest t) → AreWords (split_whitespace_rest s) (map (λ x. x.now) xs)
@@ -18,11 +19,13 @@ drained s t (x ∷ xs) run none =
       drained run.0 t xs run.2 none,
     )
 
-pub returns : goal.returns
-returns c =
-    let ran = c.in_ok-words.ensures.ran in
+pub returns-clause-made : goal.returns-clause-made
+returns-clause-made c =
+    IfOk-weaker c.collect.result _ _
+    (λ v ran.
     let all = drained c.split_whitespace.result ran.1.0 ran.0 ran.1.1 (ran.1.2 tt).1.1 in
-    let items : vec_items c.in_ok-words.words ≡ ran.0 = search rules in
-    let words : AreWords c.args.line.now (map (λ x. x.now) (vec_items c.in_ok-words.words)) = rw items (rw c.split_whitespace.ensures.rest at all) in
-    let same = c.new.ensures in
-    record { made = subst (AreWords c.args.line.now) (sym same) words; only = λ ws h. same ∙ one_way c.args.line.now _ ws words h }
+    rw ran.2.0 (rw c.split_whitespace.ensures.rest at all))
+    c.collect.ensures.ran
+
+pub returns-clause-only : goal.returns-clause-only
+returns-clause-only c = IfOk-weaker c.collect.result _ _ (λ v made ws h. one_way c.args.line.now _ ws made h) (returns-clause-made c)

@@ -1,6 +1,6 @@
 use Rattle.std.proofs.Common.{◌≡◌, length, vec_items}
 use Rattle.script.proofs.Follows.{Sofar}
-use Rattle.script.proofs.words.Words.numbers.Given as goal
+use Rattle.script.proofs.line.Words.numbers.Given as goal
 
 abbrev pub invariant-loop-word : goal.invariant-loop-word
 invariant-loop-word l =
