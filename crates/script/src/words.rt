@@ -9,7 +9,8 @@ pub fn words<'a>(heap: Global, line: &'a str) -> Result<Vec<&'a str>, AllocError
     ensures made { IfOk result (λ v. AreWords line.now (map (λ x. x.now) v.items)) }
     ensures only { IfOk result (λ v. (ws : List (List ℕ)) → AreWords line.now ws → map (λ x. x.now) v.items ≡ ws) }
 {
-    line.split_whitespace().collect(heap)
+    let words = line.split_whitespace().collect(heap)?;
+    Ok(words)
 }
 
 #[cfg(test)]

@@ -1,10 +1,9 @@
-use Rattle.std.proofs.Common.{ℕ, List, [], ◌∷◌, map, Bor}
+use Rattle.std.proofs.Common.{◌≡◌, ℕ, List, [], ◌∷◌, map, Bor, rules}
 use Rattle.std.specs.declared.str.SplitWhitespace.{SplitWhitespace}
-use Rattle.std.specs.Iterator.{Yields}
+use Rattle.std.specs.Iterator.{Yields, DrainsIf}
 use Rattle.std.specs.Str.Iter.{split_whitespace_rest, split_whitespace_steps}
 use Rattle.std.specs.Char.{is_not_whitespace}
 use Rattle.std.specs.Str.{NoCharPasses}
-use Rattle.std.proofs.lemmas.Result.{IfOk-weaker}
 use Rattle.script.specs.Words.{AreWords}
 use Rattle.script.proofs.Cuts.{one_way}
 use Rattle.script.proofs.words.words.Goals as goal
@@ -19,13 +18,12 @@ drained s t (x ∷ xs) run none =
       drained run.0 t xs run.2 none,
     )
 
+-- what it gave from the text on, to its end
+collected : (s : SplitWhitespace) (xs items : List (Bor (List ℕ))) (text : List ℕ) → DrainsIf split_whitespace_steps (Unit {0}) s xs → items ≡ xs → split_whitespace_rest s ≡ text → AreWords text (map (λ x. x.now) items)
+collected s xs items text ran is all = rw (is, ← all) (drained s ran.0 xs ran.1 (ran.2 tt).1.1)
+
 pub returns-clause-made : goal.returns-clause-made
-returns-clause-made c =
-    IfOk-weaker c.collect.result _ _
-    (λ v ran.
-    let all = drained c.split_whitespace.result ran.1.0 ran.0 ran.1.1 (ran.1.2 tt).1.1 in
-    rw ran.2.0 (rw c.split_whitespace.ensures.rest at all))
-    c.collect.ensures.ran
+returns-clause-made c = search (rules, collected c.split_whitespace.result c.in_ok-words.ensures.ran.0)
 
 pub returns-clause-only : goal.returns-clause-only
-returns-clause-only c = IfOk-weaker c.collect.result _ _ (λ v made ws h. one_way c.args.line.now _ ws made h) (returns-clause-made c)
+returns-clause-only c = let made = returns-clause-made c in search (one_way, made)
