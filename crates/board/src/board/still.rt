@@ -23,7 +23,7 @@ impl Board {
     fn has_all(&self, seat: u64) -> bool
         ensures { result ≡ all_ten (all_from self.now seat) }
     {
-        (1..=10).all(|origin| self.has_all_from(seat, origin))
+        (1..11).all(|origin| self.has_all_from(seat, origin))
     }
 
     // The same, if the seat is sound: nothing is handed to a faulty one.
@@ -37,6 +37,6 @@ impl Board {
     pub(super) fn is_all_handed(&self) -> bool
         ensures { result ≡ all_ten (all_to self.now) }
     {
-        (1..=10).all(|seat| self.is_served(seat))
+        (1..11).all(|seat| self.is_served(seat))
     }
 }

@@ -34,14 +34,14 @@ impl Rows<'_> {
             return true;
         };
         let n = self.roster.size().n();
-        (1..=n).all(|sender| self.is_handed(here, sender, origin, slot))
+        (1..n + 1).all(|sender| self.is_handed(here, sender, origin, slot))
     }
 
     fn is_row_still(&self, origin: u64, slot: u64) -> bool
         ensures { result ≡ row_still self.now.roster (row_in self.now origin slot) }
     {
         let n = self.roster.size().n();
-        (1..=n).all(|receiver| self.is_served(receiver, origin, slot))
+        (1..n + 1).all(|receiver| self.is_served(receiver, origin, slot))
     }
 
     fn is_origin_still(&self, origin: u64) -> bool
@@ -55,6 +55,6 @@ impl Rows<'_> {
         ensures { result ≡ still self.now.roster self.now.cells.now }
     {
         let n = self.roster.size().n();
-        (1..=n).all(|origin| self.is_origin_still(origin))
+        (1..n + 1).all(|origin| self.is_origin_still(origin))
     }
 }

@@ -76,6 +76,6 @@ impl<C: Carrier, B: Agreement> Reduction<C, B> {
     pub(super) fn is_idle(&self) -> bool
         ensures { result ≡ idle (layer_of C.Carrier B.Agreement self.now) }
     {
-        (1..=self.size().n()).all(|seat| self.is_idle_seat(seat))
+        (1..self.size().n() + 1).all(|seat| self.is_idle_seat(seat))
     }
 }

@@ -17,6 +17,6 @@ impl Umpire {
     pub(super) fn is_all_given(&self) -> bool
         ensures { result ≡ (count (owed self.now.roster self.now.ruling self.now.given) self.now.roster.size.n == 0) }
     {
-        (1..=self.roster.size().n()).all(|seat| !self.is_owed(seat))
+        (1..self.roster.size().n() + 1).all(|seat| !self.is_owed(seat))
     }
 }
