@@ -34,7 +34,7 @@ pub fn tell(heap: Global, text: &str) -> anyhow::Result<String> {
                 }
             }
             (Line::Act(_) | Line::Settle, Some(subject)) if subject.roster.is_some() => {
-                subject.acts.push((text, line))?;
+                subject.add(text, line)?;
             }
             _ => bail!("line {number}: expected `carrier`, then `roster`, then acts"),
         }

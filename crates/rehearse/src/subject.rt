@@ -13,12 +13,14 @@ use scenario::line::{Kind, Line};
 use scenario::plan::{Acts, most_of_settling};
 use std::alloc::{AllocError, Global};
 
-// A carrier, its roster once that is made, and the acts with their texts.
+// A carrier, its roster once that is made, and the acts with their texts. Acts and texts are two lists, since a plan goes through lines
+// alone: out of one list of pairs it would need a second copy of all lines.
 #[derive(Drop)]
 pub struct Subject<'a> {
     pub kind: Kind,
     pub roster: Option<Roster>,
-    pub acts: Vec<(&'a str, Line)>,
+    acts: Vec<Line>,
+    texts: Vec<&'a str>,
 }
 
 impl<'a> Subject<'a> {
@@ -27,7 +29,14 @@ impl<'a> Subject<'a> {
             kind,
             roster: None,
             acts: Vec::new(heap),
+            texts: Vec::new(heap),
         }
+    }
+
+    pub(crate) fn add(&mut self, text: &'a str, act: Line) -> Result<(), AllocError> {
+        self.acts.push(act)?;
+        self.texts.push(text)?;
+        Ok(())
     }
 
     // Adds the acts with their answers to the story.
@@ -42,8 +51,7 @@ impl<'a> Subject<'a> {
 
     // The run of the acts on a fresh carrier. A run is generic in its carrier, and the two carriers are different types.
     fn history(&self, heap: Global, roster: Roster) -> anyhow::Result<Vec<Entry>> {
-        let lines: Vec<Line> = self.acts.iter().map(|(_, line)| *line).collect(heap)?;
-        let mut plan = Acts::new(lines.as_slice(), roster.size().n());
+        let mut plan = Acts::new(self.acts.as_slice(), roster.size().n());
         let history = match self.kind {
             Kind::Board => run(heap, Board::new(roster), &mut plan, u64::MAX),
             Kind::Letters => {
@@ -67,8 +75,8 @@ impl<'a> Subject<'a> {
     ) -> Result<(), AllocError> {
         let most = most_of_settling(roster.size().n());
         let mut rest = history;
-        for (text, line) in &self.acts {
-            if let Line::Settle = line {
+        for (text, act) in self.texts.iter().zip(self.acts.iter()) {
+            if let Line::Settle = act {
                 let (settling, others) = rest.split_at(settling_len(rest, most));
                 let end = last_of(settling);
                 writeln!(story, "{text}: {end}")?;
