@@ -1,5 +1,5 @@
 // Settling: what the codes that a seat holds, with their flags, count as.
-ghost use Rattle.std.specs.Prelude.{◌≡◌, ℕ, ◌≤◌};
+ghost use Rattle.std.specs.Prelude.{◌≡◌, ℕ, ◌<◌, ◌≤◌, None};
 ghost use Rattle.roster.specs.Votes.{by_seat};
 ghost use Rattle.settling.specs.Rules.{settled, settled_by, settled_from};
 
@@ -34,10 +34,18 @@ impl Holdings {
     pub fn settle(&self) -> Row
         ensures size { result.size ≡ self.now.size }
         ensures settled { (j : ℕ) → 1 ≤ j → j ≤ self.now.size.n → by_seat result.settled j ≡ settled self.now.size.n self.now.size.t (by_seat self.now.codes) (by_seat self.now.flags) j }
+        ensures rest { (j : ℕ) → self.now.size.n < j → by_seat result.settled j ≡ None }
     {
+        let n = self.size.n() as usize;
         Row {
             size: self.size,
-            settled: array::from_fn(|i| self.settled_from(self.codes[i], self.flags[i])),
+            settled: array::from_fn(|i| {
+                if i < n {
+                    self.settled_from(self.codes[i], self.flags[i])
+                } else {
+                    None
+                }
+            }),
         }
     }
 }
