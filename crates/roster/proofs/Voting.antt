@@ -1,7 +1,7 @@
 -- Counting who said what. Assumes nothing.
 use Rattle.std.proofs.Common.{◌≡◌, ℕ, zero, suc, ◌+◌, ◌-◌, ◌<◌, ◌≤◌, Bool, true, false, cond, not, eqb, ◌≢◌, ◌⊎◌, List, length, take, get_or, set, replicate, is_some, Some, None, Option, sym, refl, ap, ◌∙◌, subst, inl, inr, add-one, arith}
 use Rattle.std.proofs.lemmas.List.{get_or-set_same, get_or-set_other}
-use Rattle.std.proofs.lemmas.Bool.{false≢true, eqb-true, eq-eqb, not-true, eqb-false, cases_eq}
+use Rattle.std.proofs.lemmas.Bool.{false≢true, eqb-true, eq-eqb, not-true, not_from_false, ne_eqb, eqb-false, cases_eq}
 use Rattle.roster.specs.Votes.{by_seat, is, differs, passing, said, votes, others}
 use Rattle.std.specs.Prelude.{count_by}
 use Rattle.std.proofs.lemmas.List.Sums.{count_by_more_no, count_by_more_yes}
@@ -70,6 +70,10 @@ pub record Other (o : Option ℕ) (v : ℕ) : Type 0 where
 pub said_other : (o : Option ℕ) (v : ℕ) → differs v o ≡ true → Other o v
 said_other None v h = absurd (false≢true h)
 said_other (Some w) v h = record { code = w; said = refl; apart = eqb-false w v (not-true (eqb w v) h) }
+
+-- and the other way round
+pub other_said : (o : Option ℕ) (v : ℕ) → Other o v → differs v o ≡ true
+other_said o v x = rw x.said (not_from_false _ (ne_eqb x.code v x.apart))
 
 one_way : (b : Bool) → ◌≡◌ {A = ℕ} 1 (cond b 1 0 + cond (not b) 1 0)
 one_way true = refl

@@ -91,44 +91,37 @@ module _ (n t : ℕ) (r : Record) (codes codes' flags flags' : ℕ → Option �
   due_same = from_same_code r.code
 
 -- what is due, by the tests that a seat makes in their order, on any row that says what is settled
-module _ (size : Size) (r : Record) (codes flags : ℕ → Option ℕ) (below : Option Decision) where
-  abbrev n : ℕ
-  n = size.n
-
-  abbrev t : ℕ
-  t = size.t
-
+module _ (n t : ℕ) (r : Record) (codes flags : ℕ → Option ℕ) (below : Option Decision) where
   abbrev flag_test : Bool
   flag_test = not r.flagged && leb (all_but_faulty n t) (said n codes)
 
-  -- the row has a size of its own
-  abbrev vote_test : Size → (ℕ → Option Decision) → Bool
-  vote_test z row = not r.voted && leb (all_but_faulty z.n z.t) (said z.n row)
+  abbrev vote_test : ℕ → ℕ → (ℕ → Option Decision) → Bool
+  vote_test m s row = not r.voted && leb (all_but_faulty m s) (said m row)
 
-  module _ (v : ℕ) (has : r.code ≡ Some v) (left : false ≡ flag_test) (z : Size) (of : z ≡ size) (row : ℕ → Option Decision) (same : Same n row (settled n t codes flags)) where
-    vote_same : vote_test z row ≡ vote_test size (settled n t codes flags)
-    vote_same =
-        ap (λ (x : Size). vote_test x row) of ∙ ap (λ k. not r.voted && leb (all_but_faulty n t) k) (passing_same n row _ is_some same)
+  -- the row has numbers of its own, the same ones
+  module _ (v : ℕ) (has : r.code ≡ Some v) (left : false ≡ flag_test) (m s : ℕ) (of_n : m ≡ n) (of_t : s ≡ t) (row : ℕ → Option Decision) (same : Same n row (settled n t codes flags)) where
+    vote_same : vote_test m s row ≡ vote_test n t (settled n t codes flags)
+    vote_same = ap₂ (λ a b. vote_test a b row) of_n of_t ∙ ap (λ k. not r.voted && leb (all_but_faulty n t) k) (passing_same n row _ is_some same)
 
     after_flag : due n t r codes flags below ≡ rest n t r below (settled n t codes flags)
     unfolding due
     after_flag = rw has (cond-false _ _ _ (sym left))
 
-    pub due_vote : (f : Bool) → true ≡ vote_test z row → f ≡ bit z.n z.t row → Some (Vote f) ≡ due n t r codes flags below
+    pub due_vote : (f : Bool) → true ≡ vote_test m s row → f ≡ bit m s row → Some (Vote f) ≡ due n t r codes flags below
     due_vote f test is =
-        ap (λ x. Some (Vote x)) (is ∙ ap (λ (x : Size). bit x.n x.t row) of ∙ bit_same n row _ same t)
+        ap (λ x. Some (Vote x)) (is ∙ ap₂ (λ a b. bit a b row) of_n of_t ∙ bit_same n row _ same t)
         ∙ sym (cond-true _ _ _ (sym vote_same ∙ sym test)) ∙ sym after_flag
 
-    module _ (voted : false ≡ vote_test z row) where
+    module _ (voted : false ≡ vote_test m s row) where
       after_vote : due n t r codes flags below ≡ cond (is_some r.decided) None (decides n t (settled n t codes flags) below)
       after_vote = after_flag ∙ cond-false _ _ _ (sym vote_same ∙ sym voted)
 
       pub due_over : true ≡ is_some r.decided → None ≡ due n t r codes flags below
       due_over d = sym (after_vote ∙ cond-true _ _ _ (sym d))
 
-      pub due_decide : (x : Option Due) → false ≡ is_some r.decided → x ≡ decides z.n z.t row below → x ≡ due n t r codes flags below
+      pub due_decide : (x : Option Due) → false ≡ is_some r.decided → x ≡ decides m s row below → x ≡ due n t r codes flags below
       due_decide x d is =
-          is ∙ ap (λ (y : Size). decides y.n y.t row below) of ∙ decides_same n row _ same t below
+          is ∙ ap₂ (λ a b. decides a b row below) of_n of_t ∙ decides_same n row _ same t below
           ∙ sym (after_vote ∙ cond-false _ _ _ (sym d))
 
 -- what is due at a seat of a layer
